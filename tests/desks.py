@@ -1057,6 +1057,78 @@ def rows_with_more_in_them(place):
             status 11""")
 
 
+# How many desks there may be
+
+MOST_DESKS, AT_ONCE = 100_000, 1_000
+
+
+def answered(running, given, word, count):
+    """Gives frames, says of all rows that they are kept, and gives the bytes of so many frames that begin with a word."""
+    running.give(given)
+    found = []
+    while len(found) < count:
+        line, data = running.next(f"{count - len(found)} frames more with {word.decode()}")
+        if line.startswith(b"keep "):
+            running.give(b"kept\n")
+        elif line.startswith(word):
+            found.append(data or line)
+    return found
+
+
+def greet(running, places, numbers):
+    """Has a client at each place greet by a name of its own, and gives what is answered."""
+    return answered(running, b"".join(b"open %d AT-%d greet,book\n" % (at, at) + frames.came(at, b"desk X%d\n" % number)
+                                      for at, number in zip(places, numbers)), b"send", len(places))
+
+
+def leave(running, places):
+    """Has the clients at places go."""
+    want(answered(running, b"".join(b"gone %d\n" % at for at in places), b"close", len(places)),
+         [b"close %d gone" % at for at in places], "clients that go")
+
+
+def begin_with(running, count):
+    """Gives a row each of so many desks again."""
+    rows = [b"%d\tX%d\t1\tbook NONE 1\tunknown\n" % (it, it) for it in range(1, count + 1)]
+    for at in range(0, count, AT_ONCE):
+        running.give(frames.again(b"".join(rows[at:at + AT_ONCE])))
+    running.give(frames.again(b""))
+    want(running.next("ready")[0], b"ready %d" % count, "rows that are given again")
+
+
+@test
+def desks_that_greet_and_go_are_forgotten(place):
+    """More than there may be come and go, and the next ones are answered as the first; the desk that is there all the
+    time, and one that has a row, are the same still."""
+    with frames.Running([*place.given.desks, "first", TWO_LEGS], cwd=place.folder) as running:
+        begin_with(running, 1)
+        want(greet(running, [AT_ONCE], [0]), [b"at 1\n"], "a desk that stays")
+        for first in range(2, MOST_DESKS + 2 * AT_ONCE, AT_ONCE):
+            places = range(AT_ONCE)
+            want(greet(running, places, range(first, first + AT_ONCE)), [b"at 1\n"] * AT_ONCE, f"desks from {first} on")
+            leave(running, places)
+        want(answered(running, frames.came(AT_ONCE, b"book LOC 1\n"), b"send", 1), [b"ok 1\n"], "the desk that stays")
+        want(greet(running, [0], [1]), [b"at 2\n"], "the desk that has a row")
+        leave(running, [AT_ONCE])
+        want(greet(running, [1], [0]), [b"at 2\n"], "the desk that stayed, when it comes again")
+
+
+@test
+def as_many_desks_as_there_may_be(place):
+    """Where all others have rows, one that is there keeps the last place until it goes, and then another has it."""
+    with frames.Running([*place.given.desks, "first", TWO_LEGS], cwd=place.folder) as running:
+        begin_with(running, MOST_DESKS - 1)
+        want(greet(running, [0], [MOST_DESKS]), [b"at 1\n"], "the last desk")
+        late = b"open 1 AT-1 greet\n" + frames.came(1, b"desk X%d\n" % (MOST_DESKS + 1))
+        want(answered(running, late, b"close", 1), [b"close 1 desks"], "one desk more")
+        leave(running, [0])
+        want(greet(running, [1], [MOST_DESKS + 1]), [b"at 1\n"], "one desk more, once the last is gone")
+        want(answered(running, frames.came(1, b"book LOC 1\n"), b"send", 1), [b"ok 1\n"], "its row")
+        leave(running, [1])
+        late = b"open 2 AT-2 greet\n" + frames.came(2, b"desk X%d\n" % MOST_DESKS)
+        want(answered(running, late, b"close", 1), [b"close 2 desks"], "the one that was forgotten")
+
+
 # Exit statuses
 
 

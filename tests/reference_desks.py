@@ -122,14 +122,22 @@ class Journal:
     def __init__(self, session):
         self.session, self.desks, self.rows = session, {}, 0
         self.owners = {}  # the desk's name of each booking number
+        self.is_somebodys = lambda name: False  # whether some client is the desk of a name
 
     def desk(self, name):
-        """The desk of a name, a new one if need be."""
+        """The desk of a name, a new one if need be, for which one without rows that no client is may be forgotten."""
         if name not in self.desks:
             if len(self.desks) >= MOST_DESKS:
-                raise Closed("desks")
+                self.forget_one()
             self.desks[name] = Desk()
         return self.desks[name]
+
+    def forget_one(self):
+        for name, desk in self.desks.items():
+            if not (desk.rows or self.is_somebodys(name)):
+                del self.desks[name]
+                return
+        raise Closed("desks")
 
     def carry_out(self, name, sequence, line):
         """Carries out a line that changes something, and gives its row."""
@@ -229,6 +237,7 @@ class Hub:
 
     def __init__(self, session):
         self.journal = Journal(session)
+        self.journal.is_somebodys = lambda name: any(it.desk_name == name for it in self.clients.values())
         self.clients, self.turns = {}, []
         self.heard, self.rows, self.out = [], [], []
         self.is_ready = self.is_awaiting = False

@@ -25,7 +25,7 @@ use Rattle.nrm_hub.specs.Again.{FailsAgain, StopsAt, no_memory, no_row, not_next
 use Rattle.nrm_hub.specs.Asked.{is_change}
 use Rattle.nrm_hub.specs.Inner.Answered.{CarriesOut, carried, ran_out}
 use Rattle.nrm_hub.specs.Inner.Rows.{CarriesRow, IsRowFault, RowsAgain, read_as}
-use Rattle.nrm_hub.specs.Register.{Carries, DeskValue, Joins, RegisterValue, added, desk_at, desk_named, name_at, new_desk, there}
+use Rattle.nrm_hub.specs.Register.{Carries, DeskValue, Joins, RegisterValue, added, desk_at, desk_named, name_at, new_desk, replaced, there}
 use Rattle.nrm_hub.specs.Rows.{Entry, row_text, rows_text}
 use Rattle.nrm_hub.specs.World.{GivesAgain, next, none}
 use Rattle.nrm_hub.specs.declared.again.AgainFault.{AgainFault}
@@ -85,17 +85,20 @@ found-name r name d named =
     let same : get_or names d [] ≡ name = (bytes_eq-Decides (get_or names d []) name).0 passes in
     sym (get_or-map (λ (desk : DeskValue). desk.name) r.desks d (new_desk []) [] short) ∙ same
 
-pub joined-name : (old : RegisterValue) (name : List ℕ) (new : RegisterValue) (d : ℕ) → Joins old name new d → name_at new d ≡ name
+pub joined-name : (old : RegisterValue) (name : List ℕ) (new : RegisterValue) (d : ℕ) → Joins None old name new d → name_at new d ≡ name
 joined-name old name new d (there e named) = found-name old name e named
 joined-name old name new d (added absent) = ap (λ (desk : DeskValue). desk.name) (get_or-append_seam old.desks (new_desk name) [] (new_desk []))
+joined-name old name new d (replaced e absent full is) = absurd (cc)
 
-pub joined-rows : (old : RegisterValue) (name : List ℕ) (new : RegisterValue) (d : ℕ) → Joins old name new d → new.rows ≡ old.rows
+pub joined-rows : (old : RegisterValue) (name : List ℕ) (new : RegisterValue) (d : ℕ) → Joins None old name new d → new.rows ≡ old.rows
 joined-rows old name new d (there e named) = refl
 joined-rows old name new d (added absent) = refl
+joined-rows old name new d (replaced e absent full is) = refl
 
-pub joined-text : (old : RegisterValue) (name : List ℕ) (new : RegisterValue) (d : ℕ) → Joins old name new d → new.text ≡ old.text
+pub joined-text : (old : RegisterValue) (name : List ℕ) (new : RegisterValue) (d : ℕ) → Joins None old name new d → new.text ≡ old.text
 joined-text old name new d (there e named) = refl
 joined-text old name new d (added absent) = refl
+joined-text old name new d (replaced e absent full is) = refl
 
 -- what was carried out, but for memory, has its row
 pub has-row : (old new : RegisterValue) (d sequence : ℕ) (c : Command) (a : Answered) → CarriesOut old new d sequence c a → a ≢ answered.Memory
@@ -103,7 +106,7 @@ pub has-row : (old new : RegisterValue) (d sequence : ℕ) (c : Command) (a : An
 has-row old new d sequence c a (ran_out passes) apart = absurd (apart refl)
 has-row old new d sequence c a (carried b line carries) apart = carries
 
-pub carried-so : (old joined new : RegisterValue) (row : ReadRow) (d : ℕ) (a : Answered) → Joins old row.name joined d
+pub carried-so : (old joined new : RegisterValue) (row : ReadRow) (d : ℕ) (a : Answered) → Joins None old row.name joined d
     → (desk_at joined d).next ≤ row.sequence → CarriesOut joined new d row.sequence row.command a → a ≢ answered.Memory → CarriesRow old new row
 carried-so old joined new row d a joins later out apart = record {
   joined = joined;

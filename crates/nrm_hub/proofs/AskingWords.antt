@@ -1,5 +1,5 @@
 -- Lines that ask nothing of the hub itself: those of more than three words.
-use Rattle.std.proofs.Common.{ℕ, ◌≡◌, ◌≤◌, false, List, [], ◌∷◌, length, None, refl, arith}
+use Rattle.std.proofs.Common.{ℕ, ◌≡◌, ◌≤◌, List, [], ◌∷◌, length, None, refl, arith}
 use Rattle.nrm_hub.specs.Asked.{asked_of_words}
 
 pub too-many-words : (first second third : List ℕ) (more : List (List ℕ)) → 1 ≤ length more

@@ -1,5 +1,5 @@
 -- What a line that is taken leaves of its client.
-use Rattle.std.proofs.Common.{ℕ, ◌≡◌, ◌∙◌, ◌+◌, List, [], ◌++◌, take, drop, refl, sym, ap, append_assoc, None}
+use Rattle.std.proofs.Common.{Option, ℕ, ◌≡◌, ◌∙◌, ◌+◌, List, [], ◌++◌, take, drop, refl, sym, ap, append_assoc, None}
 use Rattle.std.proofs.lemmas.List.{take-append-drop}
 use Rattle.nrm_frames.specs.declared.why.Why.{Why}
 use Rattle.nrm_frames.specs.declared.why.Why.TheVariants as why
@@ -46,14 +46,14 @@ refused old reason = record {
   heard = λ e. absurd (cc);
 }
 
-pub takes-tells : (r : RegisterValue) (c : ClientValue) (line rest : List ℕ) (r' : RegisterValue) (c' : ClientValue) (how : How)
-    (text : List ℕ) → TakesLine r c line rest r' c' how text → Tells c.serial c.told rest text c'
+pub takes-tells : {spare : Option ℕ} (r : RegisterValue) (c : ClientValue) (line rest : List ℕ) (r' : RegisterValue) (c' : ClientValue) (how : How)
+    (text : List ℕ) → TakesLine spare r c line rest r' c' how text → Tells c.serial c.told rest text c'
 takes-tells r c line rest _ _ _ _ (greets name number r' d n c' none is may joins next hears) =
     hears-tells (joined_as (after_line c line rest) d n) (at_line n) c' hears
 takes-tells r c line rest _ _ _ _ (may_not_greet name number c' none is may hears) =
     hears-tells (after_line c line rest) denied_line c' hears
 takes-tells r c line rest _ _ _ _ (lacks_memory c' none hears) = hears-tells (after_line c line rest) memory_line c' hears
-takes-tells r c line rest _ _ _ _ (too_many none many) = refused (after_line c line rest) why.Desks
+takes-tells r c line rest _ _ _ _ (too_many none many full) = refused (after_line c line rest) why.Desks
 takes-tells r c line rest _ _ _ _ (answers d r' c' how text is_desk answered hears) =
     hears-tells (record (after_line c line rest) { number = c.number + 1 }) text c' hears
 takes-tells r c line rest _ _ _ _ (refuses d reason is_desk unfit) = refused (after_line c line rest) reason

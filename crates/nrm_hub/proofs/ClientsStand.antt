@@ -205,9 +205,9 @@ stands-on w _ h (passed_over f nothing) = still w _ _ _ _ h h.settled h.seated
 stands-on w _ h (left place c there opens) = still w _ _ _ _ h h.settled (closed-seated w place c why.Gone h there)
 stands-on w _ h (too_much_came place c piece reason there opens much) = still w _ _ _ _ h h.settled (closed-seated w place c reason h there)
 stands-on w _ h (to_be_closed place c reason there opens cause) = still w _ _ _ _ h h.settled (closed-seated w place c reason h there)
-stands-on w _ h (becomes_desk place c d r there none joins) =
+stands-on w _ h (becomes_desk place c d r there none spare is_spare joins) =
     still w _ _ _ _ h h.settled (joined-seated w place c d (desk_at r d).next h there)
-stands-on w _ h (line_taken place c c' line rest r how text there opens unasked is unended short takes) =
+stands-on w _ h (line_taken place c c' line rest r how text there opens unasked is unended short spare is_spare takes) =
     taken-kept w place c c' line rest r how text h there opens is unended (takes-tells w.hub.register c line rest r c' how text takes)
 stands-on w _ h (asked_to_keep unasked) = still w _ _ _ _ h (λ settled. absurd (cc)) h.seated
 stands-on w _ h (said_to_be_kept was_asked) = record {

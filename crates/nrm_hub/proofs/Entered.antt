@@ -1,5 +1,5 @@
 -- What holds of a register once a desk has joined, a line has passed, or a row is entered.
-use Rattle.std.proofs.Common.{ℕ, ◌≡◌, ◌≢◌, ◌∙◌, ◌+◌, ◌<◌, ◌≤◌, ◌⊎◌, inl, inr, Bool, true, false, cond, ◌||◌, List, [], ◌∷◌, ◌++◌, length, drop, map, get_or, Option, Some, None, MatchOption}
+use Rattle.std.proofs.Common.{ℕ, zero, suc, ◌≡◌, ◌≢◌, ◌∙◌, ◌+◌, ◌<◌, ◌≤◌, ◌⊎◌, inl, inr, Bool, true, false, cond, ◌||◌, List, [], ◌∷◌, ◌++◌, length, drop, map, get_or, Option, Some, None, MatchOption}
 use Rattle.std.proofs.Common.{refl, sym, ap, subst, arith, bytes_eq, length-append, length-drop}
 use Rattle.std.specs.Prelude.{All, nat_lt, slice_set, if◌then◌else◌}
 use Rattle.std.specs.Bool.{MatchBool}
@@ -29,7 +29,7 @@ use Rattle.nrm_session.specs.declared.reply.Reply.{Reply as Answered}
 use Rattle.nrm_session.specs.declared.reply.Reply.TheVariants as answered
 use Rattle.nrm_session.proofs.OtherLines.{other-lines}
 use Rattle.nrm_hub.specs.Asked.{is_change}
-use Rattle.nrm_hub.specs.Register.{Carries, DeskValue, IsDesk, IsRegister, IsTold, RegisterValue, desk_at, desk_named, is_of_row, new_desk, new_register}
+use Rattle.nrm_hub.specs.Register.{Carries, DeskValue, IsDesk, IsRegister, IsTold, RegisterValue, desk_at, desk_named, is_of_row, new_desk, new_register, renamed}
 use Rattle.nrm_hub.specs.Register.{name_at, owners_after, trimmed, with_row}
 use Rattle.nrm_hub.specs.Inner.Answered.{CarriesOut, ran_out}
 use Rattle.nrm_hub.specs.Rows.{row_text}
@@ -261,6 +261,24 @@ added r name is few =
 pub names-added : (desks : List DeskValue) (name : List ℕ)
     → map (λ (d : DeskValue). d.name) (desks ++ new_desk name ∷ []) ≡ map (λ (d : DeskValue). d.name) desks ++ name ∷ []
 names-added desks name = map-append (λ (d : DeskValue). d.name) desks (new_desk name ∷ [])
+
+-- a desk has another name
+pub renamed-so : (r : RegisterValue) (d : ℕ) (name : List ℕ) → IsRegister r → IsRegister (renamed r d name)
+renamed-so r d name is =
+    let one : IsDesk r.control (new_desk name) = record { next = omega arith; few = omega arith; told = All-nil (IsTold r.control) } in
+    record {
+      control = is.control;
+      next = is.next;
+      rows = is.rows;
+      few = omega (arith, is.few, length-set r.desks d (new_desk name));
+      desks = All-set (IsDesk r.control) r.desks d (new_desk name) one is.desks;
+    }
+
+pub names-renamed : (desks : List DeskValue) (d : ℕ) (name : List ℕ)
+    → map (λ (k : DeskValue). k.name) (slice_set desks d (new_desk name)) ≡ slice_set (map (λ (k : DeskValue). k.name) desks) d name
+names-renamed [] d name = refl
+names-renamed (x ∷ xs) zero name = refl
+names-renamed (x ∷ xs) (suc d) name = ap (λ (names : List (List ℕ)). x.name ∷ names) (names-renamed xs d name)
 
 -- where nothing passes a test none does
 none-first : {X : Type 0} (test : X → Bool) (b : Bool) (i : ℕ) (xs : List X) → cond b (Some i) (position_from test (i + 1) xs) ≡ None

@@ -1,5 +1,5 @@
 -- What a call of the hub does, by what may happen in the world that the hub stands in.
-use Rattle.std.proofs.Common.{ℕ, ◌≤◌, ◌≡◌, ◌≢◌, ◌∙◌, ◌+◌, ◌<◌, List, [], ◌∷◌, ◌++◌, length, Some, None, refl, sym, ap, subst}
+use Rattle.std.proofs.Common.{ℕ, ◌≤◌, ◌≡◌, ◌≢◌, ◌∙◌, ◌+◌, ◌<◌, List, [], ◌∷◌, ◌++◌, length, Option, Some, None, refl, sym, ap, subst}
 use Rattle.std.proofs.Common.{append-nil, append_assoc}
 use Rattle.std.specs.Prelude.{All, ◌==◌, false, replicate, ⊤}
 use Rattle.nrm_frames.specs.Frames.{Frame}
@@ -14,6 +14,7 @@ use Rattle.nrm_hub.specs.Hub.{HubValue, client_at, with_client, with_places}
 use Rattle.nrm_hub.specs.Lines.{How}
 use Rattle.nrm_hub.specs.Register.{Joins, RegisterValue, desk_at}
 use Rattle.nrm_hub.specs.Rows.{Entry, rows_text}
+use Rattle.nrm_hub.specs.Spare.{IsSpare}
 use Rattle.nrm_hub.specs.Taking.{TakesLine}
 use Rattle.nrm_hub.specs.World.{Comes, GivesAgain, Happens, IsCause, IsNothing, IsTooMuch, World, after_frame, after_output, exchange_of, frame}
 use Rattle.nrm_hub.specs.World.{at_one, with_answered, with_opened, with_piece_of}
@@ -151,23 +152,25 @@ goes-closing h place c reason there whole cause =
     (to_be_closed place c reason p.0 whole p.1) (sym (append-nil w.inputs)) (sym (append-nil w.outputs)))
 
 pub goes-desk : (h : HubValue) (place : ℕ) (c : ClientValue) (d : ℕ) (r : RegisterValue) → client_at h place ≡ Some c → c.desk ≡ None
-    → Joins h.register c.name r d
+    → (spare : Option ℕ) → IsSpare h.register h.clients spare → Joins spare h.register c.name r d
     → Goes h (record (with_client h place (Some (joined_as c d (desk_at r d).next))) { register = r }) [] []
-goes-desk h place c d r there none joins =
-    goes-at (λ h. (client_at h place ≡ Some c) × Joins h.register c.name r d)
-    (λ h. record (with_client h place (Some (joined_as c d (desk_at r d).next))) { register = r }) [] (λ _. []) h (there, joins)
+goes-desk h place c d r there none spare is_spare joins =
+    goes-at (λ h. (client_at h place ≡ Some c) × IsSpare h.register h.clients spare × Joins spare h.register c.name r d)
+    (λ h. record (with_client h place (Some (joined_as c d (desk_at r d).next))) { register = r }) [] (λ _. []) h (there, is_spare, joins)
     (λ w p. went w (record w { hub = record (with_client w.hub place (Some (joined_as c d (desk_at r d).next))) { register = r } }) [] []
-    (becomes_desk place c d r p.0 none p.1) (sym (append-nil w.inputs)) (sym (append-nil w.outputs)))
+    (becomes_desk place c d r p.0 none spare p.1 p.2) (sym (append-nil w.inputs)) (sym (append-nil w.outputs)))
 
 pub goes-line : (h : HubValue) (place : ℕ) (c c' : ClientValue) (line rest : List ℕ) (r : RegisterValue) (how : How) (text : List ℕ)
     → client_at h place ≡ Some c → c.closing ≡ None → h.phase ≢ phase.Asked → c.coming ≡ line ++ 10 ∷ rest
-    → All (λ byte. (byte == 10) ≡ false) line → length line < MOST_LINE → TakesLine h.register c line rest r c' how text
+    → All (λ byte. (byte == 10) ≡ false) line → length line < MOST_LINE → (spare : Option ℕ)
+    → (c.desk ≡ None → IsSpare h.register h.clients spare) → TakesLine spare h.register c line rest r c' how text
     → Goes h (record (with_client h place (Some c')) { register = r; phase = phase.Answering }) [] []
-goes-line h place c c' line rest r how text there whole unasked is none short takes =
-    goes-at (λ h. (client_at h place ≡ Some c) × (h.phase ≢ phase.Asked) × TakesLine h.register c line rest r c' how text)
-    (λ h. record (with_client h place (Some c')) { register = r; phase = phase.Answering }) [] (λ _. []) h (there, unasked, takes)
+goes-line h place c c' line rest r how text there whole unasked is none short spare is_spare takes =
+    goes-at (λ h. (client_at h place ≡ Some c) × (h.phase ≢ phase.Asked) × (c.desk ≡ None → IsSpare h.register h.clients spare)
+    × TakesLine spare h.register c line rest r c' how text)
+    (λ h. record (with_client h place (Some c')) { register = r; phase = phase.Answering }) [] (λ _. []) h (there, unasked, is_spare, takes)
     (λ w p. went w (with_answered w place r c' (exchange_of r c c' line how text)) [] []
-    (line_taken place c c' line rest r how text p.0 whole p.1 is none short p.2) (sym (append-nil w.inputs)) (sym (append-nil w.outputs)))
+    (line_taken place c c' line rest r how text p.0 whole p.1 is none short spare p.2 p.3) (sym (append-nil w.inputs)) (sym (append-nil w.outputs)))
 
 pub goes-asked : (h : HubValue) → h.phase ≢ phase.Asked
     → Goes h (record h { register = record h.register { text = [] }; phase = phase.Asked }) [] (keep h.register.text ∷ [])

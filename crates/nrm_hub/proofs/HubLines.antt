@@ -7,6 +7,7 @@ use Rattle.std.proofs.lemmas.List.{get_or-set_same, length-take, set-set}
 use Rattle.std.proofs.lemmas.List.Sums.{passes_at_first, split_at_first}
 use Rattle.nrm_text.proofs.Places.{found}
 use Rattle.nrm_stream.proofs.Cuts.{fails-front}
+use Rattle.nrm_hub.specs.Spare.{IsSpare}
 use Rattle.nrm_hub.specs.Clients.{ClientValue, joined_as}
 use Rattle.nrm_hub.specs.Goes.{Goes}
 use Rattle.nrm_hub.specs.Hub.{HubValue, client_at, with_client}
@@ -43,13 +44,13 @@ after_taking h place c r = record (with_client h place (Some c)) { register = r;
 -- a line of a client was taken, that perhaps became a desk before
 pub goes-taken : (h : HubValue) (place : ℕ) (c c' : ClientValue) (r' : RegisterValue) (end : ℕ) → client_at h place ≡ Some c
     → c.closing ≡ None → h.phase ≢ phase.Asked → position (λ byte. byte == 10) c.coming ≡ Some end → end < MOST_LINE
-    → Begins h.register r' c c' end
+    → (spare : Option ℕ) → (c.desk ≡ None → IsSpare h.register h.clients spare) → Begins spare h.register r' c c' end
     → Goes h (after_taking h place c' r') [] []
-goes-taken h place c c' r' end there whole unasked is short (taken one) =
+goes-taken h place c c' r' end there whole unasked is short spare is_spare (taken one) =
     let (cut, none) = line-cut c.coming end is in
     goes-line h place c c' (take end c.coming) (drop (end + 1) c.coming) r' one.how one.text there whole unasked cut none
-    (line-short c.coming end short) one.takes
-goes-taken h place c c' r' end there whole unasked is short (joined mid d no_desk joins one) =
+    (line-short c.coming end short) spare is_spare one.takes
+goes-taken h place c c' r' end there whole unasked is short spare is_spare (joined mid d no_desk joins one) =
     let (cut, none) = line-cut c.coming end is in
     let seated : ClientValue = joined_as c d (desk_at mid d).next in
     let between : HubValue = record (with_client h place (Some seated)) { register = mid } in
@@ -57,8 +58,8 @@ goes-taken h place c c' r' end there whole unasked is short (joined mid d no_des
     get_or-set_same h.clients place (Some seated) None (place-within h.clients place c there) in
     let line : Goes between (after_taking between place c' r') [] [] =
     goes-line between place seated c' (take end c.coming) (drop (end + 1) c.coming) r' one.how one.text there' whole unasked cut none
-    (line-short c.coming end short) one.takes in
+    (line-short c.coming end short) spare (λ none. absurd (cc)) one.takes in
     let same : slice_set (slice_set h.clients place (Some seated)) place (Some c') ≡ slice_set h.clients place (Some c') =
     set-set h.clients place (Some seated) (Some c') in
     subst (λ (clients : List (Option ClientValue)). Goes h (record h { register = r'; clients = clients; phase = phase.Answering }) [] []) same
-    (goes-then h between (after_taking between place c' r') [] [] [] [] (goes-desk h place c d mid there no_desk joins) line)
+    (goes-then h between (after_taking between place c' r') [] [] [] [] (goes-desk h place c d mid there no_desk spare (is_spare no_desk) joins) line)

@@ -6,10 +6,11 @@ use Rattle.nrm_frames.specs.Outgoing.{close, send}
 use Rattle.nrm_frames.specs.declared.header.Header.TheVariants as header
 use Rattle.nrm_frames.specs.declared.why.Why.{Why}
 use Rattle.nrm_frames.specs.declared.why.Why.TheVariants as why
+use Rattle.nrm_hub.specs.Spare.{IsSpare}
 use Rattle.nrm_hub.specs.Clients.{ClientValue, after_telling, closed_for}
 use Rattle.nrm_hub.specs.Goes.{Goes}
 use Rattle.nrm_hub.specs.Hub.{HubValue, client_at, with_client, with_places}
-use Rattle.nrm_hub.specs.Inner.Seats.{ClosesAt, HasPlaces, IsDeskAt, TakesAt, closes, nobody, stays, takes}
+use Rattle.nrm_hub.specs.Inner.Seats.{ClosesAt, HasPlaces, IsDeskAt, TakesAt, TakesBy, closes, nobody, stays, takes}
 use Rattle.nrm_hub.specs.Inner.Taking.{Came, IsTook, TakesNext, joined, refused}
 use Rattle.nrm_hub.specs.Register.{RegisterValue}
 use Rattle.nrm_hub.specs.World.{IsElsewhere, TakesNothing, frame}
@@ -65,12 +66,12 @@ after_took h r clients took.LongLine = record h { register = r; clients = client
 after_took h r clients took.TooLong = record h { register = r; clients = clients }
 
 module _ (h : HubValue) (place : ℕ) (r' : RegisterValue) (c c' : ClientValue) (there : client_at h place ≡ Some c) (whole : c.closing ≡ None)
-    (unasked : h.phase ≢ phase.Asked) where
-  goes-next : TakesNext h.register r' c c'
+    (unasked : h.phase ≢ phase.Asked) (spare : Option ℕ) (is_spare : c.desk ≡ None → IsSpare h.register h.clients spare) where
+  goes-next : TakesNext spare h.register r' c c'
       → Goes h (record h { register = r'; clients = slice_set h.clients place (Some c'); phase = phase.Answering }) [] []
-  goes-next next = goes-taken h place c c' r' next.end there whole unasked next.ends next.short next.begins
+  goes-next next = goes-taken h place c c' r' next.end there whole unasked next.ends next.short spare is_spare next.begins
 
-  pub goes-took : (result : Took) → IsTook h.register r' c c' result
+  pub goes-took : (result : Took) → IsTook spare h.register r' c c' result
       → Goes h (after_took h r' (slice_set h.clients place (Some c')) result) [] []
   goes-took took.Nothing (same, same_client, turn) =
       let clients : h.clients ≡ slice_set h.clients place (Some c') =
@@ -88,11 +89,16 @@ module _ (h : HubValue) (place : ℕ) (r' : RegisterValue) (c c' : ClientValue) 
       (goes-closing h place c why.Long there whole (long, none))
 
 pub goes-take : (h : HubValue) (place : ℕ) (r' : RegisterValue) (clients : List (Option ClientValue)) (result : Took) → h.phase ≢ phase.Asked
-    → TakesAt h.register r' h.clients place clients result → Goes h (after_took h r' clients result) [] []
-goes-take h place r' clients result unasked (takes c c' _ there whole is) = goes-took h place r' c c' there whole unasked result is
-goes-take h place r' clients result unasked (nobody same nothing) =
-    goes-same h h h (record h { register = r' }) [] [] refl
-    (ap (λ (r : RegisterValue). let h' : HubValue = record h { register = r } in h') (sym same)) (goes-nothing h)
+    → TakesBy h.register r' h.clients place clients result → Goes h (after_took h r' clients result) [] []
+goes-take h place r' clients result unasked by = at by.spare by.is_spare clients result by.takes
+  where
+    at : (spare : Option ℕ) → ((c : ClientValue) → client_at h place ≡ Some c → c.desk ≡ None → IsSpare h.register h.clients spare)
+        → (clients : List (Option ClientValue)) (result : Took) → TakesAt spare h.register r' h.clients place clients result
+        → Goes h (after_took h r' clients result) [] []
+    at spare is_spare _ _ (takes c c' result there whole is) = goes-took h place r' c c' there whole unasked spare (is_spare c there) result is
+    at spare is_spare _ _ (nobody same nothing) =
+        goes-same h h h (record h { register = r' }) [] [] refl
+        (ap (λ (r : RegisterValue). let h' : HubValue = record h { register = r } in h') (sym same)) (goes-nothing h)
 
 -- ---- what waited was sent, and the client is closed
 pub goes-sent : (h h' : HubValue) (place used : ℕ) (told : List ℕ) (c c0 c' : ClientValue) → h ≡ h' → client_at h place ≡ Some c
@@ -131,7 +137,7 @@ goes-made h clients (count, is) =
 
 -- a line was taken, or none
 pub goes-take_line : (h : HubValue) (place : ℕ) (r' : RegisterValue) (clients : List (Option ClientValue)) (result : Took) → h.phase ≢ phase.Asked
-    → TakesAt h.register r' h.clients place clients result → (result ≡ took.Line) ⊎ (result ≡ took.LongLine)
+    → TakesBy h.register r' h.clients place clients result → (result ≡ took.Line) ⊎ (result ≡ took.LongLine)
     → Goes h (record h { register = r'; clients = clients; phase = phase.Answering }) [] []
 goes-take_line h place r' clients result unasked at (inl is) =
     subst (λ (t : Took). Goes h (after_took h r' clients t) [] []) is (goes-take h place r' clients result unasked at)
@@ -146,7 +152,7 @@ not-line h r' clients took.LongLine line long goes = absurd (long refl)
 not-line h r' clients took.TooLong line long goes = goes
 
 pub goes-take_none : (h : HubValue) (place : ℕ) (r' : RegisterValue) (clients : List (Option ClientValue)) (result : Took) → h.phase ≢ phase.Asked
-    → TakesAt h.register r' h.clients place clients result → (result ≡ took.Line → ⊥) → (result ≡ took.LongLine → ⊥)
+    → TakesBy h.register r' h.clients place clients result → (result ≡ took.Line → ⊥) → (result ≡ took.LongLine → ⊥)
     → Goes h (record h { register = r'; clients = clients }) [] []
 goes-take_none h place r' clients result unasked at line long =
     not-line h r' clients result line long (goes-take h place r' clients result unasked at)

@@ -1,9 +1,9 @@
 -- What a register has of the rows that were carried out, and how it goes on.
-use Rattle.std.proofs.Common.{ℕ, ◌≡◌, ◌∙◌, ◌+◌, ◌<◌, ◌≤◌, true, List, [], ◌∷◌, ◌++◌, All, AllPairs, flat_map, length, get_or, set, map}
+use Rattle.std.proofs.Common.{ℕ, ◌≡◌, ◌≢◌, ◌∙◌, bytes_eq, false, inl, inr, Option, ◌+◌, ◌<◌, ◌≤◌, true, List, [], ◌∷◌, ◌++◌, All, AllPairs, flat_map, length, get_or, set, map}
 use Rattle.std.proofs.Common.{Some, None, refl, sym, ap, subst, arith, append_assoc, append-nil, length-append, length-set}
 use Rattle.std.specs.List.{position_from}
 use Rattle.std.proofs.lemmas.Grind.{flat_map-append}
-use Rattle.std.proofs.lemmas.List.{get_or-set_same, get_or_append_left, get_or_push, length_push, map-append}
+use Rattle.std.proofs.lemmas.List.{get_or-set_other, get_or-set_same, get_or_append_left, get_or_push, length_push, map-append}
 use Rattle.std.proofs.lemmas.List.Elements.{All-get_or, All-nil, All-push, All-weaker}
 use Rattle.std.proofs.lemmas.List.Quantifiers.{all_pairs_push}
 use Rattle.nrm_model.specs.Network.{NetworkValue}
@@ -20,12 +20,15 @@ use Rattle.nrm_session.proofs.Answered.{run-joined}
 use Rattle.nrm_hub.specs.Asked.{is_change}
 use Rattle.nrm_hub.specs.Desks.{IsOneRun, NumbersRise, Turn, seller_of, turn_again}
 use Rattle.nrm_hub.specs.Register.{Carries, DeskValue, Joins, Passes, RegisterValue, added, desk_at, is_of_row, name_at, new_desk, new_register}
-use Rattle.nrm_hub.specs.Register.{owners_after, there, with_row}
+use Rattle.nrm_hub.specs.Register.{owners_after, replaced, there, with_row}
+use Rattle.nrm_hub.specs.Clients.{ClientValue}
 use Rattle.nrm_hub.specs.Rows.{Entry}
+use Rattle.nrm_hub.specs.Spare.{IsSpare}
+use Rattle.nrm_model.proofs.NameLemmas.{bytes_eq-apart}
 use Rattle.nrm_hub.specs.World.{GivesAgain, next as row_again, none as nothing_again}
 use Rattle.nrm_hub.specs.declared.row.Row.{Row}
 use Rattle.nrm_hub.proofs.RegisterLists.{EachIsFound, IsAmong, all-trimmed, among-last, among-longer, at-push, at-set, found-pushed, map-same, named}
-use Rattle.nrm_hub.proofs.RegisterLists.{named-at, named-longer, named-set, rel-set}
+use Rattle.nrm_hub.proofs.RegisterLists.{named-at, named-elsewhere, named-in-place, named-longer, named-set, nat_eq-cases, none-found, rel-set}
 use Rattle.nrm_hub.proofs.RegisterReplies.{is-of-row, owners-named, reply-same}
 
 -- ---- one run
@@ -76,17 +79,20 @@ HoldsRows control rows desk = All (IsOfRows control desk.name rows) desk.held
 pub record IsOfDesk (desks : List DeskValue) (entry : Entry) : Type 0 where
   pub desk : ℕ
   pub found : position_from (named entry.desk) 0 desks ≡ Some desk
+  pub above : 0 < entry.sequence
   pub below : entry.sequence < (get_or desks desk (new_desk [])).next
 
 abbrev pub name_of : List DeskValue → ℕ → List ℕ
 name_of desks d = (get_or desks d (new_desk [])).name
 
--- each desk is found by its name, each row is one of a desk, and each row that is held is one of the rows; the owners are desks
+-- each desk is found by its name, each row is one of a desk, and each row that is held is one of the rows; the owners are desks that have rows
 pub record DesksFit (control : ControlValue) (desks : List DeskValue) (owners : List ℕ) (rows : List Entry) : Type 0 where
   pub each : EachIsFound desks
+  pub some : (d : ℕ) → 0 < (get_or desks d (new_desk [])).next
   pub owned : All (IsOfDesk desks) rows
   pub held : (d : ℕ) → HoldsRows control rows (get_or desks d (new_desk []))
   pub known : All (λ owner. owner < length desks) owners
+  pub sold : All (λ owner. 1 < (get_or desks owner (new_desk [])).next) owners
   pub sellers : map (name_of desks) owners ≡ flat_map seller_of rows
 
 -- and so the register: all is one run, the rows are counted, and of each desk their numbers rise
@@ -107,9 +113,11 @@ fits-new start = record {
   rise = λ i j d less short. absurd (omega arith);
   fit = record {
     each = λ d short. absurd (omega arith);
+    some = λ d. omega arith;
     owned = All-nil (IsOfDesk []);
     held = λ d. All-nil (IsOfRows start [] []);
     known = All-nil (λ (owner : ℕ). owner < 0);
+    sold = All-nil (λ (owner : ℕ). 1 < 1);
     sellers = refl;
   };
 }
@@ -130,6 +138,7 @@ module _ (control : ControlValue) (desks : List DeskValue) (owners : List ℕ) (
   owned-more entry is = record {
     desk = is.desk;
     found = named-longer entry.desk desks (new_desk name ∷ []) 0 is.desk is.found;
+    above = is.above;
     below = subst (λ (desk : DeskValue). entry.sequence < desk.next)
         (sym (same-at is.desk (named-at entry.desk desks is.desk is.found).0)) is.below;
   }
@@ -137,23 +146,112 @@ module _ (control : ControlValue) (desks : List DeskValue) (owners : List ℕ) (
   desks-joined : DesksFit control more owners rows
   desks-joined = record {
     each = found-pushed desks name f.each new;
+    some = at-push (λ (desk : DeskValue). 0 < desk.next) (new_desk []) desks (new_desk name) (omega arith) f.some;
     owned = All-weaker (IsOfDesk desks) (IsOfDesk more) owned-more rows f.owned;
     held = at-push (HoldsRows control rows) (new_desk []) desks (new_desk name) (All-nil (IsOfRows control name rows)) f.held;
     known = All-weaker (λ (owner : ℕ). owner < length desks) (λ (owner : ℕ). owner < length more) (λ owner less. omega (arith, longer, less))
         owners f.known;
+    sold = λ k e short. subst (λ (desk : DeskValue). 1 < desk.next) (sym (same-at (get_or owners k e) (f.known k e short))) (f.sold k e short);
     sellers = map-same (name_of more) (name_of desks) owners
         (All-weaker (λ (owner : ℕ). owner < length desks) (λ (owner : ℕ). name_of more owner ≡ name_of desks owner)
         (λ owner less. ap (λ (desk : DeskValue). desk.name) (same-at owner less)) owners f.known) ∙ f.sellers;
   }
 
-pub fits-joined : (start : ControlValue) (r r' : RegisterValue) (name : List ℕ) (d : ℕ) (rows : List Entry) (turns : List Turn)
-    → FitsIn start r rows turns → Joins r name r' d → FitsIn start r' rows turns
-fits-joined start r _ name _ rows turns f (there d found) = f
-fits-joined start r _ name _ rows turns f (added new) = record {
+-- ---- a desk without rows has another name
+module _ (control : ControlValue) (desks : List DeskValue) (owners : List ℕ) (rows : List Entry) (name : List ℕ) (d : ℕ)
+    (f : DesksFit control desks owners rows) (new : position_from (named name) 0 desks ≡ None) (within : d < length desks)
+    (unused : (get_or desks d (new_desk [])).next ≡ 1) where
+  abbrev changed : List DeskValue
+  changed = set desks d (new_desk name)
+
+  as-long : length changed ≡ length desks
+  as-long = length-set desks d (new_desk name)
+
+  other-at : (k : ℕ) → k ≢ d → get_or changed k (new_desk []) ≡ get_or desks k (new_desk [])
+  other-at k apart = get_or-set_other desks d k (new_desk name) (new_desk []) apart
+
+  -- a name that is found is another one
+  apart-from : (other : List ℕ) (k : ℕ) → position_from (named other) 0 desks ≡ Some k → bytes_eq name other ≡ false
+  apart-from other k found = bytes_eq-apart name other
+      (λ same. none-found (sym new ∙ ap (λ (n : List ℕ). position_from (named n) 0 desks) same ∙ found))
+
+  found-still : (other : List ℕ) (k : ℕ) → k ≢ d → position_from (named other) 0 desks ≡ Some k
+      → position_from (named other) 0 changed ≡ Some k
+  found-still other k apart found =
+      named-elsewhere other desks d 0 k (new_desk name) (apart-from other k found) (λ same. apart (omega (arith, same))) found
+
+  each-changed : EachIsFound changed
+  each-changed k short = elim (nat_eq-cases k d) [
+    | inl same ↦ found-here k same
+    | inr apart ↦
+        subst (λ (desk : DeskValue). position_from (named desk.name) 0 changed ≡ Some k) (sym (other-at k apart))
+        (found-still (name_of desks k) k apart (f.each k (omega (arith, short, as-long))))
+  ]
+    where
+      found-here : (k : ℕ) → k ≡ d → position_from (named (name_of changed k)) 0 changed ≡ Some k
+      found-here k same =
+          let there : get_or changed d (new_desk []) ≡ new_desk name = get_or-set_same desks d (new_desk name) (new_desk []) within in
+          subst (λ (i : ℕ). position_from (named (name_of changed i)) 0 changed ≡ Some i) (sym same)
+          (subst (λ (desk : DeskValue). position_from (named desk.name) 0 changed ≡ Some d) (sym there)
+          (named-in-place name desks d 0 within new ∙ ap (λ (n : ℕ). Some n) (omega arith)))
+
+  not-of : (entry : Entry) (is : IsOfDesk desks entry) → is.desk ≢ d
+  not-of entry is same =
+      let next : (get_or desks is.desk (new_desk [])).next ≡ 1 = ap (λ (k : ℕ). (get_or desks k (new_desk [])).next) same ∙ unused in
+      omega (arith, is.below, is.above, next)
+
+  owned-still : (entry : Entry) → IsOfDesk desks entry → IsOfDesk changed entry
+  owned-still entry is = record {
+    desk = is.desk;
+    found = found-still entry.desk is.desk (not-of entry is) is.found;
+    above = is.above;
+    below = subst (λ (desk : DeskValue). entry.sequence < desk.next) (sym (other-at is.desk (not-of entry is))) is.below;
+  }
+
+  not-owner : (k e : ℕ) → k < length owners → get_or owners k e ≢ d
+  not-owner k e short same =
+      let next : (get_or desks (get_or owners k e) (new_desk [])).next ≡ 1 = ap (λ (i : ℕ). (get_or desks i (new_desk [])).next) same ∙ unused in
+      omega (arith, f.sold k e short, next)
+
+  desks-renamed : DesksFit control changed owners rows
+  desks-renamed = record {
+    each = each-changed;
+    some = at-set (λ (desk : DeskValue). 0 < desk.next) (new_desk []) desks d (new_desk name) (omega arith) f.some;
+    owned = All-weaker (IsOfDesk desks) (IsOfDesk changed) owned-still rows f.owned;
+    held = at-set (HoldsRows control rows) (new_desk []) desks d (new_desk name) (All-nil (IsOfRows control name rows)) f.held;
+    known = λ k e short. omega (arith, f.known k e short, as-long);
+    sold = λ k e short.
+        subst (λ (desk : DeskValue). 1 < desk.next) (sym (other-at (get_or owners k e) (not-owner k e short))) (f.sold k e short);
+    sellers = map-same (name_of changed) (name_of desks) owners
+        (λ k e short. ap (λ (desk : DeskValue). desk.name) (other-at (get_or owners k e) (not-owner k e short))) ∙ f.sellers;
+  }
+
+-- a desk that is there and has no row
+abbrev pub IsUnused : RegisterValue → ℕ → Type 0
+IsUnused r d = (d < length r.desks) × ((desk_at r d).next ≡ 1)
+
+pub unused-none : (r : RegisterValue) (d : ℕ) → None ≡ Some d → IsUnused r d
+unused-none r d is = absurd (cc)
+
+pub unused-spare : (r : RegisterValue) (clients : List (Option ClientValue)) (spare : Option ℕ) → IsSpare r clients spare → (d : ℕ)
+    → spare ≡ Some d → IsUnused r d
+unused-spare r clients None is d same = absurd (cc)
+unused-spare r clients (Some e) is d same = subst (λ (k : ℕ). IsUnused r k) (cc) (is.within, is.unused)
+
+pub fits-joined : {spare : Option ℕ} (start : ControlValue) (r r' : RegisterValue) (name : List ℕ) (d : ℕ) (rows : List Entry) (turns : List Turn)
+    → ((e : ℕ) → spare ≡ Some e → IsUnused r e) → FitsIn start r rows turns → Joins spare r name r' d → FitsIn start r' rows turns
+fits-joined start r _ name _ rows turns unused f (there d found) = f
+fits-joined start r _ name _ rows turns unused f (added new) = record {
   run = f.run;
   counted = f.counted;
   rise = f.rise;
   fit = desks-joined r.control r.desks r.owners rows name f.fit new;
+}
+fits-joined start r _ name _ rows turns unused f (replaced d new full is) = record {
+  run = f.run;
+  counted = f.counted;
+  rise = f.rise;
+  fit = desks-renamed r.control r.desks r.owners rows name d f.fit new (unused d is).0 (unused d is).1;
 }
 
 -- it is there and has the name, and the desks that there were are there still; the text is the same
@@ -164,11 +262,12 @@ pub record Joined (r r' : RegisterValue) (name : List ℕ) (d : ℕ) : Type 0 wh
   pub text : r'.text ≡ r.text
   pub rows : r'.rows ≡ r.rows
 
-pub joined : (r r' : RegisterValue) (name : List ℕ) (d : ℕ) → Joins r name r' d → Joined r r' name d
-joined r _ name _ (there d found) =
+pub joined : {spare : Option ℕ} (r r' : RegisterValue) (name : List ℕ) (d : ℕ) → ((e : ℕ) → spare ≡ Some e → IsUnused r e)
+    → Joins spare r name r' d → Joined r r' name d
+joined r _ name _ unused (there d found) =
     let at = named-at name r.desks d found in
     record { within = at.0; name_is = at.1; longer = omega arith; text = refl; rows = refl }
-joined r _ name _ (added new) =
+joined r _ name _ unused (added new) =
     let long : length (r.desks ++ new_desk name ∷ []) ≡ length r.desks + 1 = length-append r.desks (new_desk name ∷ []) in
     record {
       within = omega (arith, long);
@@ -177,29 +276,38 @@ joined r _ name _ (added new) =
       text = refl;
       rows = refl;
     }
+joined r _ name _ unused (replaced d new full is) =
+    let long : length (set r.desks d (new_desk name)) ≡ length r.desks = length-set r.desks d (new_desk name) in
+    let within : d < length r.desks = (unused d is).0 in
+    record {
+      within = omega (arith, long, within);
+      name_is = ap (λ (desk : DeskValue). desk.name) (get_or-set_same r.desks d (new_desk name) (new_desk []) within);
+      longer = omega (arith, long);
+      text = refl;
+      rows = refl;
+    }
 
 -- ---- a line is carried out
--- the owners are desks still
-known-in : (count : ℕ) (owners : List ℕ) (d : ℕ) (a : Answered) → d < count → All (λ owner. owner < count) owners
-    → All (λ owner. owner < count) (owners_after owners d a)
-known-in count owners d (answered.Sold number) within all = All-push (λ (owner : ℕ). owner < count) owners d all within
-known-in count owners d answered.Bad within all = all
-known-in count owners d answered.Unknown within all = all
-known-in count owners d (answered.NoLeg i) within all = all
-known-in count owners d answered.NoFare within all = all
-known-in count owners d (answered.Cancelled number refund) within all = all
-known-in count owners d (answered.Optimised num den) within all = all
-known-in count owners d answered.OptimisedNone within all = all
-known-in count owners d answered.Overflow within all = all
-known-in count owners d answered.Memory within all = all
-known-in count owners d (answered.Hindsight num den revenue withheld) within all = all
-known-in count owners d (answered.Leg i) within all = all
-known-in count owners d answered.Plan within all = all
+-- what holds of each owner holds of each one after it, if it holds of this desk
+known-in : (P : ℕ → Type 0) (owners : List ℕ) (d : ℕ) (a : Answered) → P d → All P owners → All P (owners_after owners d a)
+known-in P owners d (answered.Sold number) within all = All-push P owners d all within
+known-in P owners d answered.Bad within all = all
+known-in P owners d answered.Unknown within all = all
+known-in P owners d (answered.NoLeg i) within all = all
+known-in P owners d answered.NoFare within all = all
+known-in P owners d (answered.Cancelled number refund) within all = all
+known-in P owners d (answered.Optimised num den) within all = all
+known-in P owners d answered.OptimisedNone within all = all
+known-in P owners d answered.Overflow within all = all
+known-in P owners d answered.Memory within all = all
+known-in P owners d (answered.Hindsight num den revenue withheld) within all = all
+known-in P owners d (answered.Leg i) within all = all
+known-in P owners d answered.Plan within all = all
 
 known-after : (desks : List DeskValue) (d : ℕ) (desk : DeskValue) (owners : List ℕ) (a : Answered) → d < length desks
     → All (λ owner. owner < length desks) owners → All (λ owner. owner < length (set desks d desk)) (owners_after owners d a)
 known-after desks d desk owners a within all = subst (λ (count : ℕ). All (λ owner. owner < count) (owners_after owners d a))
-    (sym (length-set desks d desk)) (known-in (length desks) owners d a within all)
+    (sym (length-set desks d desk)) (known-in (λ (owner : ℕ). owner < length desks) owners d a within all)
 
 -- a desk keeps its name, and its next number doesn't fall
 abbrev GoesOn : DeskValue → DeskValue → Type 0
@@ -237,6 +345,7 @@ module _ (old new : ControlValue) (desks : List DeskValue) (owners : List ℕ) (
   owned-on e is = record {
     desk = is.desk;
     found = found' e.desk ∙ is.found;
+    above = is.above;
     below = omega (arith, is.below, (goes-on is.desk).1);
   }
 
@@ -244,6 +353,7 @@ module _ (old new : ControlValue) (desks : List DeskValue) (owners : List ℕ) (
   owned-last = record {
     desk = d;
     found = found' desk.name ∙ f.each d within;
+    above = omega (arith, above, f.some d);
     below = subst (λ (k : DeskValue). n < k.next) (sym (get_or-set_same desks d (with_row desk row) (new_desk []) within)) (omega arith);
   }
 
@@ -284,12 +394,19 @@ module _ (old new : ControlValue) (desks : List DeskValue) (owners : List ℕ) (
       (map-same (name_of desks') (name_of desks) owners (λ k e short. (goes-on (get_or owners k e)).0) ∙ f.sellers)
       ∙ sym (flat_map-append seller_of rows (entry ∷ []))
 
+  sold-last : 1 < (get_or desks' d (new_desk [])).next
+  sold-last = subst (λ (k : DeskValue). 1 < k.next) (sym (get_or-set_same desks d (with_row desk row) (new_desk []) within))
+      (omega (arith, above, f.some d))
+
   desks-carried : DesksFit new desks' (owners_after owners d a) (rows ++ entry ∷ [])
   desks-carried = record {
     each = each';
+    some = λ k. omega (arith, f.some k, (goes-on k).1);
     owned = All-push (IsOfDesk desks') rows entry (All-weaker (IsOfDesk desks) (IsOfDesk desks') owned-on rows f.owned) owned-last;
     held = held';
     known = known-after desks d (with_row desk row) owners a within f.known;
+    sold = known-in (λ (owner : ℕ). 1 < (get_or desks' owner (new_desk [])).next) owners d a sold-last
+        (λ k e short. omega (arith, f.sold k e short, (goes-on (get_or owners k e)).1));
     sellers = sellers';
   }
 
@@ -336,13 +453,13 @@ module _ (start : ControlValue) (begun : (s : SeatState) × Represents start s) 
       subst (λ (l : List Entry). FitsIn start r l (turns ++ [])) (sym (append-nil rows))
       (subst (λ (l : List Turn). FitsIn start r rows l) (sym (append-nil turns)) f)
   fits-again _ _ _ (row_again r mid r' r'' d n name c a more joins changes above carries rest) rows turns f =
-      let j = joined r mid name d joins in
+      let j = joined r mid name d (unused-none r) joins in
       let last : Entry = record { desk = name; sequence = n; command = c; reply = reply_in r'.control a } in
       let turn : Turn = (c, reply_in r'.control a) in
       let one : FitsIn start r' (rows ++ last ∷ []) (turns ++ turn ∷ []) =
       subst (λ (desk : List ℕ). FitsIn start r' (rows ++ record { desk = desk; sequence = n; command = c; reply = reply_in r'.control a } ∷ [])
       (turns ++ turn ∷ [])) j.name_is
-      (fits-carried mid r' d n c a rows turns (fits-joined start r mid name d rows turns f joins) j.within changes above carries) in
+      (fits-carried mid r' d n c a rows turns (fits-joined start r mid name d rows turns (unused-none r) f joins) j.within changes above carries) in
       let all : FitsIn start r'' ((rows ++ last ∷ []) ++ more) ((turns ++ turn ∷ []) ++ map turn_again more) =
       fits-again (record r' { text = [] }) more r'' rest (rows ++ last ∷ []) (turns ++ turn ∷ []) one in
       subst (λ (l : List Entry). FitsIn start r'' l (turns ++ turn ∷ map turn_again more)) (append_assoc rows (last ∷ []) more)
@@ -359,6 +476,7 @@ desks-passed : (old new : ControlValue) (desks : List DeskValue) (owners : List 
     → DesksFit old desks owners rows → DesksFit new desks owners rows
 desks-passed old new desks owners rows same f = record {
   each = f.each;
+  some = f.some;
   owned = f.owned;
   held = λ d. All-weaker (IsOfRows old (name_of desks d) rows) (IsOfRows new (name_of desks d) rows)
       (λ x is. record {
@@ -371,6 +489,7 @@ desks-passed old new desks owners rows same f = record {
         reply = is.reply ∙ sym (reply-same old new x.reply same is.line);
       }) (get_or desks d (new_desk [])).held (f.held d);
   known = f.known;
+  sold = f.sold;
   sellers = f.sellers;
 }
 

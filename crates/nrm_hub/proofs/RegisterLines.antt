@@ -22,7 +22,7 @@ use Rattle.nrm_hub.specs.World.{Exchange, desk_name, exchange_of}
 use Rattle.nrm_hub.specs.declared.asked.Asked.TheVariants as asked
 use Rattle.nrm_hub.specs.declared.row.Row.{Row}
 use Rattle.nrm_hub.proofs.RegisterLists.{among-longer, row-found, same-command}
-use Rattle.nrm_hub.proofs.RegisterFits.{FitsIn, IsOfRows, fits-carried, fits-joined, fits-passed, joined}
+use Rattle.nrm_hub.proofs.RegisterFits.{IsUnused, FitsIn, IsOfRows, fits-carried, fits-joined, fits-passed, joined}
 
 -- ---- seats
 -- the number of a desk, if there is one, is below this one
@@ -162,26 +162,27 @@ module _ (start : ControlValue) (begun : (s : SeatState) × Represents start s) 
 
   -- a line was taken
   pub became-taken : (c : ClientValue) (line rest : List ℕ) (r' : RegisterValue) (c' : ClientValue) (how : How) (text : List ℕ)
-      → IsBelow c.desk (length r.desks) → TakesLine r c line rest r' c' how text
+      → IsBelow c.desk (length r.desks) → (spare : Option ℕ) → (c.desk ≡ None → (e : ℕ) → spare ≡ Some e → IsUnused r e)
+      → TakesLine spare r c line rest r' c' how text
       → Became start r r' rows turns (exchange_of r' c c' line how text) × IsBelow c'.desk (length r'.desks)
-  became-taken c line rest _ _ _ _ seat (greets name number r' d n c' no_desk is may joins n_is hears) =
-      let j = joined r r' name d joins in
+  became-taken c line rest _ _ _ _ seat spare unused (greets name number r' d n c' no_desk is may joins n_is hears) =
+      let j = joined r r' name d (unused no_desk) joins in
       let same : c'.desk ≡ Some d = hears-desk (joined_as (after_line c line rest) d n) c' (at_line n) hears in (
-        became-otherwise r' c.serial c.number (desk_name r' c'.desk) line (at_line n) (fits-joined start r r' name d rows turns f joins)
+        became-otherwise r' c.serial c.number (desk_name r' c'.desk) line (at_line n) (fits-joined start r r' name d rows turns (unused no_desk) f joins)
             j.text j.longer,
         subst (λ (o : Option ℕ). IsBelow o (length r'.desks)) (sym same) j.within,
       )
-  became-taken c line rest _ _ _ _ seat (may_not_greet name number c' no_desk is may hears) = (
+  became-taken c line rest _ _ _ _ seat spare unused (may_not_greet name number c' no_desk is may hears) = (
     became-otherwise r c.serial c.number (desk_name r c'.desk) line denied_line f refl (omega arith),
     subst (λ (o : Option ℕ). IsBelow o (length r.desks)) (sym (hears-desk (after_line c line rest) c' denied_line hears)) seat,
   )
-  became-taken c line rest _ _ _ _ seat (lacks_memory c' no_desk hears) = (
+  became-taken c line rest _ _ _ _ seat spare unused (lacks_memory c' no_desk hears) = (
     became-otherwise r c.serial c.number (desk_name r c'.desk) line memory_line f refl (omega arith),
     subst (λ (o : Option ℕ). IsBelow o (length r.desks)) (sym (hears-desk (after_line c line rest) c' memory_line hears)) seat,
   )
-  became-taken c line rest _ _ _ _ seat (too_many no_desk many) =
+  became-taken c line rest _ _ _ _ seat spare unused (too_many no_desk many none) =
       (became-otherwise r c.serial c.number (desk_name r c.desk) line [] f refl (omega arith), seat)
-  became-taken c line rest _ _ _ _ seat (answers d r' c' how text is_desk told hears) =
+  became-taken c line rest _ _ _ _ seat spare unused (answers d r' c' how text is_desk told hears) =
       let kept : c'.desk ≡ c.desk = hears-desk (record (after_line c line rest) { number = c.number + 1 }) c' text hears in
       let same : c'.desk ≡ Some d = kept ∙ is_desk in
       let within : d < length r.desks = subst (λ (o : Option ℕ). IsBelow o (length r.desks)) is_desk seat in
@@ -191,5 +192,5 @@ module _ (start : ControlValue) (begun : (s : SeatState) × Represents start s) 
         subst (λ (desk : List ℕ). Became start r r' rows turns (said c.serial desk c.number line how text)) (sym name) became,
         subst (λ (o : Option ℕ). IsBelow o (length r'.desks)) (sym kept) (below-more c.desk (length r.desks) (length r'.desks) became.longer seat),
       )
-  became-taken c line rest _ _ _ _ seat (refuses d reason is_desk refused) =
+  became-taken c line rest _ _ _ _ seat spare unused (refuses d reason is_desk refused) =
       (became-otherwise r c.serial c.number (desk_name r c.desk) line [] f refl (omega arith), seat)

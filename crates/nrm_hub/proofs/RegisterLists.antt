@@ -1,8 +1,8 @@
 -- Lists of a register: a place that changes, a desk by its name, and rows one behind another.
 use Rattle.std.proofs.Common.{ℕ, ◌≡◌, ◌∙◌, ◌+◌, ◌<◌, ◌==◌, suc, zero, Bool, true, false, cond, List, [], ◌∷◌, ◌++◌, All, length, get_or, set, map, drop, replicate}
-use Rattle.std.proofs.Common.{Option, Some, None, bytes_eq, find, nat_lt, inl, inr, refl, sym, ap, ap₂, subst, arith, append_assoc, length-append}
+use Rattle.std.proofs.Common.{◌≢◌, ◌⊎◌, Option, Some, None, bytes_eq, find, nat_lt, inl, inr, refl, sym, ap, ap₂, subst, arith, append_assoc, length-append}
 use Rattle.std.specs.List.{position_from}
-use Rattle.std.proofs.lemmas.Bool.{and_parts, cases_lt, cond_both, eqb-true, false≢true}
+use Rattle.std.proofs.lemmas.Bool.{and_parts, cases_Bool, cases_lt, cond_both, eq-eqb, eqb-true, false≢true}
 use Rattle.std.proofs.lemmas.Iterator.Adapters.{position_from-zero}
 use Rattle.std.proofs.lemmas.List.{get_or_append_left, get_or_push}
 use Rattle.std.proofs.lemmas.List.Elements.{All-drop, All-head, All-tail}
@@ -187,3 +187,45 @@ same-command (command.Book product party) (command.Book product' party') is =
 same-command (command.Cancel number) (command.Cancel number') is = ap (λ (n : ℕ). command.Cancel n) (eqb-true number number' is)
 same-command (command.Reoptimise period) (command.Reoptimise period') is = ap (λ (n : ℕ). command.Reoptimise n) (eqb-true period period' is)
 same-command one other is = absurd (false≢true is)
+
+-- a name that was found is there
+pub none-found : {k : ℕ} → None ≡ Some k → ⊥
+none-found same = absurd (cc)
+
+pub nat_eq-cases : (a b : ℕ) → (a ≡ b) ⊎ (a ≢ b)
+nat_eq-cases a b = elim (cases_Bool (a == b)) [
+  | inl same ↦ inl (eqb-true a b same)
+  | inr apart ↦ inr (λ same. false≢true (sym apart ∙ eq-eqb a b same))
+]
+
+-- ---- a desk with another name in the place of one
+-- a name that is found elsewhere is found there still
+past : (b : Bool) (j k : ℕ) (rest : Option ℕ) → k ≢ j → cond b (Some j) rest ≡ Some k → rest ≡ Some k
+past true j k rest apart found =
+    let same : Some j ≡ Some k = found in
+    let one : j ≡ k = cc in
+    absurd (apart (sym one))
+past false j k rest apart found = found
+
+pub named-elsewhere : (name : List ℕ) (desks : List DeskValue) (d j k : ℕ) (new : DeskValue) → bytes_eq new.name name ≡ false → k ≢ j + d
+    → position_from (named name) j desks ≡ Some k → position_from (named name) j (set desks d new) ≡ Some k
+named-elsewhere name [] d j k new apart other found = found
+named-elsewhere name (x ∷ xs) zero j k new apart other found =
+    ap (λ (b : Bool). cond b (Some j) (position_from (named name) (j + 1) xs)) apart
+    ∙ past (bytes_eq x.name name) j k (position_from (named name) (j + 1) xs) (λ same. other (omega (arith, same))) found
+named-elsewhere name (x ∷ xs) (suc d) j k new apart other found =
+    first-or (bytes_eq x.name name) j k (position_from (named name) (j + 1) xs) (position_from (named name) (j + 1) (set xs d new))
+    (λ e. named-elsewhere name xs d (j + 1) k new apart (λ same. other (omega (arith, same))) e) found
+
+-- and the new name is found in the place
+pub named-in-place : (name : List ℕ) (desks : List DeskValue) (d j : ℕ) → d < length desks → position_from (named name) j desks ≡ None
+    → position_from (named name) j (set desks d (new_desk name)) ≡ Some (j + d)
+named-in-place name [] d j within none = absurd (omega arith)
+named-in-place name (x ∷ xs) zero j within none =
+    ap (λ (b : Bool). cond b (Some j) (position_from (named name) (j + 1) xs)) ((bytes_eq-Decides name name).1 refl)
+    ∙ ap (λ (n : ℕ). Some n) (omega arith)
+named-in-place name (x ∷ xs) (suc d) j within none =
+    let same : j + 1 + d ≡ j + suc d = omega arith in
+    new-or (bytes_eq x.name name) j (j + suc d) (position_from (named name) (j + 1) xs)
+    (position_from (named name) (j + 1) (set xs d (new_desk name)))
+    (λ e. named-in-place name xs d (j + 1) (omega arith) e ∙ ap (λ (n : ℕ). Some n) same) none

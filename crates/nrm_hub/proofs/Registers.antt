@@ -21,13 +21,14 @@ use Rattle.nrm_hub.specs.Hub.{HubValue, client_at}
 use Rattle.nrm_hub.specs.Lines.{How, carried, otherwise, passed, repeated}
 use Rattle.nrm_hub.specs.Register.{Joins, RegisterValue, desk_at, name_at}
 use Rattle.nrm_hub.specs.Rows.{Entry, rows_text}
+use Rattle.nrm_hub.specs.Spare.{IsSpare}
 use Rattle.nrm_hub.specs.Taking.{TakesLine}
 use Rattle.nrm_hub.specs.World.{Comes, Exchange, GivesAgain, Happens, IsNothing, World, after_frame, after_output, at_one, beginning, exchange_of}
 use Rattle.nrm_hub.specs.World.{frame, with_answered}
 use Rattle.nrm_hub.specs.World.{asked_to_keep, becomes_desk, here, left, line_taken, opened, passed_over, piece_came, places_made, readied}
 use Rattle.nrm_hub.specs.World.{rows_again as given_again, said_to_be_kept, then, to_be_closed, too_much_came, was_closed, was_not_opened, was_told}
 use Rattle.nrm_hub.specs.declared.phase.Phase.TheVariants as phase
-use Rattle.nrm_hub.proofs.RegisterFits.{FitsIn, fits-again, fits-joined, fits-new, joined, text-again}
+use Rattle.nrm_hub.proofs.RegisterFits.{FitsIn, fits-again, fits-joined, fits-new, joined, text-again, unused-spare}
 use Rattle.nrm_hub.proofs.RegisterLines.{IsBelow, IsSeated, became-taken, seated-more}
 use Rattle.nrm_hub.proofs.RegisterLists.{among-longer, at-nones, at-set, front-nil, rows-joined, set-nil}
 
@@ -184,12 +185,14 @@ module _ (start : ControlValue) (w : World) (s : Stands start w) where
       }
 
   -- ---- a client becomes a desk
-  on-desk : (place : ℕ) (c : ClientValue) (d : ℕ) (r : RegisterValue) → Joins w.hub.register c.name r d
+  on-desk : (place : ℕ) (c : ClientValue) (d : ℕ) (r : RegisterValue) (spare : Option ℕ) → IsSpare w.hub.register w.hub.clients spare
+      → Joins spare w.hub.register c.name r d
       → Stands start (record w { hub = record w.hub { register = r; clients = set w.hub.clients place (Some (joined_as c d (desk_at r d).next)) } })
-  on-desk place c d r joins =
-      let j = joined w.hub.register r c.name d joins in
+  on-desk place c d r spare is_spare joins =
+      let j = joined w.hub.register r c.name d (unused-spare w.hub.register w.hub.clients spare is_spare) joins in
       record {
-        fits = fits-joined start w.hub.register r c.name d (rows_in w) (turns_in w) s.fits joins;
+        fits = fits-joined start w.hub.register r c.name d (rows_in w) (turns_in w)
+            (unused-spare w.hub.register w.hub.clients spare is_spare) s.fits joins;
         repeats = s.repeats;
         given = record {
           rows = ap (λ (l : List ℕ). rows_given w ++ l) j.text ∙ s.given.rows;
@@ -213,12 +216,13 @@ module _ (start : ControlValue) (w : World) (s : Stands start w) where
   repeats-longer rows more e otherwise is = tt
 
   on-line : (place : ℕ) (c c' : ClientValue) (line rest : List ℕ) (r : RegisterValue) (how : How) (text : List ℕ)
-      → (s : SeatState) × Represents start s → client_at w.hub place ≡ Some c → TakesLine w.hub.register c line rest r c' how text
+      → (s : SeatState) × Represents start s → client_at w.hub place ≡ Some c → (spare : Option ℕ)
+      → (c.desk ≡ None → IsSpare w.hub.register w.hub.clients spare) → TakesLine spare w.hub.register c line rest r c' how text
       → Stands start (with_answered w place r c' (exchange_of r c c' line how text))
-  on-line place c c' line rest r how text begun at takes =
+  on-line place c c' line rest r how text begun at spare is_spare takes =
       let e : Exchange = exchange_of r c c' line how text in
       let (became, seat) = became-taken start begun w.hub.register (rows_in w) (turns_in w) s.fits c line rest r c' how text
-      (seat-of place c at) takes in
+      (seat-of place c at) spare (λ none. unused-spare w.hub.register w.hub.clients spare (is_spare none)) takes in
       let more : List Entry = entry_of e ++ [] in
       let rows : w.again ++ flat_map entry_of (w.answered ++ e ∷ []) ≡ rows_in w ++ more =
       ap (λ (l : List Entry). w.again ++ l) (flat_map-append entry_of w.answered (e ∷ []))
@@ -349,9 +353,10 @@ stands-on start w _ begun s (too_much_came place c piece reason at open_still mu
     (no-rows-came w.inputs f refl) refl (seat-of start w s place c at)
 stands-on start w _ begun s (to_be_closed place c reason at open_still cause) =
     changed start w s place (Some (closed_for c reason)) w.hub.opened w.inputs w.outputs w.came w.sent refl refl (seat-of start w s place c at)
-stands-on start w _ begun s (becomes_desk place c d r at no_desk joins) = on-desk start w s place c d r joins
-stands-on start w _ begun s (line_taken place c c' line rest r how text at open_still not_asked coming unended short takes) =
-    on-line start w s place c c' line rest r how text begun at takes
+stands-on start w _ begun s (becomes_desk place c d r at no_desk spare is_spare joins) =
+    on-desk start w s place c d r spare is_spare joins
+stands-on start w _ begun s (line_taken place c c' line rest r how text at open_still not_asked coming unended short spare is_spare takes) =
+    on-line start w s place c c' line rest r how text begun at spare is_spare takes
 stands-on start w _ begun s (asked_to_keep not_asked) = on-asked start w s
 stands-on start w _ begun s (said_to_be_kept is_asked) = on-kept start w s is_asked
 stands-on start w _ begun s (was_told place c at settled) =

@@ -45,7 +45,7 @@ row_of line = row_of_fields (slice_split (λ c. c == 9) line)
 -- desks as there may be.
 pub data IsNotNext (r : RegisterValue) (row : RowRead) : Type 0 where
   other_number : row.number ≢ r.rows + 1 → IsNotNext r row
-  used : (joined : RegisterValue) (d : ℕ) → Joins r row.name joined d → row.sequence < (desk_at joined d).next → IsNotNext r row
+  used : (joined : RegisterValue) (d : ℕ) → Joins None r row.name joined d → row.sequence < (desk_at joined d).next → IsNotNext r row
   many_rows : MOST_ROWS ≤ r.rows → IsNotNext r row
   many_desks : MOST_DESKS ≤ length r.desks → IsNotNext r row
 
@@ -57,7 +57,7 @@ pub data StopsAt (r : RegisterValue) (rest : List ℕ) : AgainFault → Type 0 w
   not_next : (line behind : List ℕ) (row : RowRead) → rest ≡ line ++ 10 ∷ behind → row_of line ≡ Some row → IsNotNext r row
       → StopsAt r rest (fault.NoRow (r.rows + 1))
   other : (line behind : List ℕ) (row : RowRead) (joined mid : RegisterValue) (d : ℕ) (reply : Answered) → rest ≡ line ++ 10 ∷ behind
-      → row_of line ≡ Some row → Joins r row.name joined d → Carries joined mid d row.sequence row.command reply
+      → row_of line ≡ Some row → Joins None r row.name joined d → Carries joined mid d row.sequence row.command reply
       → line ++ 10 ∷ [] ≢ row_text (r.rows + 1) row.name row.sequence row.command (reply_in mid.control reply)
       → StopsAt r rest (fault.Differs (r.rows + 1))
   no_memory : StopsAt r rest fault.NoMemory

@@ -10,6 +10,7 @@ pub mod Lines
 pub mod Register
 pub mod Rows
 pub mod Seats
+pub mod Spare
 pub mod Taking
 pub mod Waiting
 pub mod World

@@ -82,10 +82,16 @@ pub record Passes (old new : RegisterValue) (c : Command) (reply : Reply) : Type
   pub steps : Steps old.control new.control c reply
   pub rest : new ≡ record old { control = new.control }
 
--- The desk of a name, by its number: it is there, or it is added behind the others.
-pub data Joins (old : RegisterValue) (name : List ℕ) : RegisterValue → ℕ → Type 0 where
-  there : (d : ℕ) → desk_named old name ≡ Some d → Joins old name old d
-  added : desk_named old name ≡ None → Joins old name (record old { desks = old.desks ++ new_desk name ∷ [] }) (length old.desks)
+-- the number of a desk is another one's from now on, of which nothing is known
+abbrev pub renamed : RegisterValue → ℕ → List ℕ → RegisterValue
+renamed r d name = record r { desks = slice_set r.desks d (new_desk name) }
+
+-- The desk of a name, by its number: it is there, it is added behind the others, or, where there are as many as may be, it has the number of
+-- one that is spare.
+pub data Joins (spare : Option ℕ) (old : RegisterValue) (name : List ℕ) : RegisterValue → ℕ → Type 0 where
+  there : (d : ℕ) → desk_named old name ≡ Some d → Joins spare old name old d
+  added : desk_named old name ≡ None → Joins spare old name (record old { desks = old.desks ++ new_desk name ∷ [] }) (length old.desks)
+  replaced : (d : ℕ) → desk_named old name ≡ None → MOST_DESKS ≤ length old.desks → spare ≡ Some d → Joins spare old name (renamed old d name) d
 
 -- a reply that a row may have: of one line, and the same however things stand later
 abbrev pub is_of_row : Answered → Bool

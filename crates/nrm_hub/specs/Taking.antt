@@ -15,17 +15,18 @@ may_greet c name = bytes_eq c.name name || c.rights.greet
 
 -- What one line of a client does: to what all have in common, to the client, what became of the line, and the text of its reply. Of a client
 -- that is no desk yet, a greeting makes it one; so does any other line, by its own name, before it is answered.
-pub data TakesLine (r : RegisterValue) (c : ClientValue) (line rest : List ℕ) : RegisterValue → ClientValue → How → List ℕ → Type 0 where
+pub data TakesLine (spare : Option ℕ) (r : RegisterValue) (c : ClientValue) (line rest : List ℕ) : RegisterValue → ClientValue → How → List ℕ → Type 0 where
   greets : (name : List ℕ) (number : Option ℕ) (r' : RegisterValue) (d n : ℕ) (c' : ClientValue) → c.desk ≡ None
-      → asked_in line ≡ asked.Greeting name number → may_greet c name ≡ true → Joins r name r' d
+      → asked_in line ≡ asked.Greeting name number → may_greet c name ≡ true → Joins spare r name r' d
       → n ≡ unwrap_or number (desk_at r' d).next → Hears (joined_as (after_line c line rest) d n) (at_line n) c'
-      → TakesLine r c line rest r' c' otherwise (at_line n)
+      → TakesLine spare r c line rest r' c' otherwise (at_line n)
   may_not_greet : (name : List ℕ) (number : Option ℕ) (c' : ClientValue) → c.desk ≡ None → asked_in line ≡ asked.Greeting name number
-      → may_greet c name ≡ false → Hears (after_line c line rest) denied_line c' → TakesLine r c line rest r c' otherwise denied_line
+      → may_greet c name ≡ false → Hears (after_line c line rest) denied_line c' → TakesLine spare r c line rest r c' otherwise denied_line
   lacks_memory : (c' : ClientValue) → c.desk ≡ None → Hears (after_line c line rest) memory_line c'
-      → TakesLine r c line rest r c' otherwise memory_line
-  too_many : c.desk ≡ None → MOST_DESKS ≤ length r.desks → TakesLine r c line rest r (closed_for (after_line c line rest) why.Desks) otherwise []
+      → TakesLine spare r c line rest r c' otherwise memory_line
+  too_many : c.desk ≡ None → MOST_DESKS ≤ length r.desks → spare ≡ None
+      → TakesLine spare r c line rest r (closed_for (after_line c line rest) why.Desks) otherwise []
   answers : (d : ℕ) (r' : RegisterValue) (c' : ClientValue) (how : How) (text : List ℕ) → c.desk ≡ Some d → Answers r c.rights d c.number line r' how text
-      → Hears (record (after_line c line rest) { number = c.number + 1 }) text c' → TakesLine r c line rest r' c' how text
+      → Hears (record (after_line c line rest) { number = c.number + 1 }) text c' → TakesLine spare r c line rest r' c' how text
   refuses : (d : ℕ) (reason : Why) → c.desk ≡ Some d → Refuses r d c.number line reason
-      → TakesLine r c line rest r (closed_for (after_line c line rest) reason) otherwise []
+      → TakesLine spare r c line rest r (closed_for (after_line c line rest) reason) otherwise []

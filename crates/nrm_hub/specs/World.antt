@@ -16,6 +16,7 @@ use Rattle.nrm_hub.specs.Hub.{HubValue, client_at, new_hub, with_client, with_pl
 use Rattle.nrm_hub.specs.Lines.{How}
 use Rattle.nrm_hub.specs.Register.{Carries, Joins, RegisterValue, desk_at, name_at}
 use Rattle.nrm_hub.specs.Rows.{Entry, rows_text}
+use Rattle.nrm_hub.specs.Spare.{IsSpare}
 use Rattle.nrm_hub.specs.Taking.{TakesLine}
 use Rattle.nrm_hub.specs.declared.limits.TheConstants.{MOST_LINE, MOST_WAITING}
 use Rattle.nrm_hub.specs.declared.phase.Phase.TheVariants as phase
@@ -110,7 +111,7 @@ with_answered w place r c exchange = record w {
 pub data GivesAgain : RegisterValue → List Entry → RegisterValue → Type 0 where
   none : (r : RegisterValue) → GivesAgain r [] r
   next : (r joined mid r' : RegisterValue) (d sequence : ℕ) (name : List ℕ) (command : Command) (reply : _) (more : List Entry)
-      → Joins r name joined d → is_change command ≡ true → (desk_at joined d).next ≤ sequence → Carries joined mid d sequence command reply
+      → Joins None r name joined d → is_change command ≡ true → (desk_at joined d).next ≤ sequence → Carries joined mid d sequence command reply
       → GivesAgain (record mid { text = [] }) more r'
       → GivesAgain r (record { desk = name; sequence = sequence; command = command; reply = reply_in mid.control reply } ∷ more) r'
 
@@ -188,11 +189,12 @@ pub data Happens (w : World) : World → Type 0 where
       → IsCause w.hub place c reason → Happens w (record w { hub = with_client w.hub place (Some (closed_for c reason)) })
   -- a line of a client is taken, while nobody waits for the word that all is kept
   becomes_desk : (place : ℕ) (c : ClientValue) (d : ℕ) (r : RegisterValue) → client_at w.hub place ≡ Some c → c.desk ≡ None
-      → Joins w.hub.register c.name r d
+      → (spare : Option ℕ) → IsSpare w.hub.register w.hub.clients spare → Joins spare w.hub.register c.name r d
       → Happens w (record w { hub = record (with_client w.hub place (Some (joined_as c d (desk_at r d).next))) { register = r } })
   line_taken : (place : ℕ) (c c' : ClientValue) (line rest : List ℕ) (r : RegisterValue) (how : How) (text : List ℕ)
       → client_at w.hub place ≡ Some c → c.closing ≡ None → w.hub.phase ≢ phase.Asked → c.coming ≡ line ++ 10 ∷ rest
-      → All (λ byte. (byte == 10) ≡ false) line → length line < MOST_LINE → TakesLine w.hub.register c line rest r c' how text
+      → All (λ byte. (byte == 10) ≡ false) line → length line < MOST_LINE → (spare : Option ℕ)
+      → (c.desk ≡ None → IsSpare w.hub.register w.hub.clients spare) → TakesLine spare w.hub.register c line rest r c' how text
       → Happens w (with_answered w place r c' (exchange_of r c c' line how text))
   -- the rows of all lines that were answered are given out, and then they are said to be kept
   asked_to_keep : w.hub.phase ≢ phase.Asked

@@ -89,7 +89,7 @@ fn carry_row(alloc: Global, register: &mut Register, row: ReadRow) -> Result<(),
     if row.number != number || number > MOST_ROWS {
         return Err(AgainFault::NoRow(number));
     }
-    let desk = match register.join(alloc, &row.name) {
+    let desk = match register.join(alloc, &row.name, None) {
         Ok(desk) => desk,
         Err(JoinFault::TooMany) => return Err(AgainFault::NoRow(number)),
         Err(JoinFault::NoMemory) => return Err(AgainFault::NoMemory),

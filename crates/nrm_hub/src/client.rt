@@ -1,6 +1,6 @@
 //! A client of the hub: who it is, what came from it and was not used yet, and what waits to be told to it. The bytes that were used stay at
 //! the front until more come.
-ghost use Rattle.std.specs.Prelude.{◌≡◌, ◌≢◌, ◌==◌, ◌<◌, ◌≤◌, ◌+◌, ◌^◌, ◌⊎◌, drop, length, position, take, None, Some, false, true};
+ghost use Rattle.std.specs.Prelude.{ℕ, Option, IfSome, ◌≡◌, ◌≢◌, ◌==◌, ◌<◌, ◌≤◌, ◌+◌, ◌^◌, ◌⊎◌, drop, length, position, take, None, Some, false, true};
 ghost use Rattle.nrm_hub.specs.Clients.{after_telling, closed_for, new_client};
 ghost use Rattle.nrm_hub.specs.Asked.{asked_in};
 ghost use Rattle.nrm_hub.specs.Clients.{after_line, joined_as};
@@ -282,7 +282,7 @@ impl Client {
         requires end { position (λ c. c == 10) self.old.coming ≡ Some end }
         requires short { end < MOST_LINE }
         requires used { self.old.used ≤ 2 ^ 61 }
-        ensures { TakesIts register.old register.new self.old self.new end }
+        ensures { (spare : Option ℕ) → TakesIts spare register.old register.new self.old self.new end }
     {
         if self.number > LAST_SEQUENCE {
             self.use_line(end);
@@ -349,21 +349,23 @@ impl Client {
         register: &mut Register,
         name: &Name,
         number: Option<u64>,
+        spare: Option<u32>,
         end: usize,
     )
         requires first { self.old.desk ≡ None }
         requires end { position (λ c. c == 10) self.old.coming ≡ Some end }
         requires greeting { asked_in (take end self.old.coming) ≡ asked.Greeting name.now number }
         requires number { IsNumber number }
+        requires spare { IfSome spare (λ desk. desk < length register.old.desks) }
         requires short { end < MOST_LINE }
         requires used { self.old.used ≤ 2 ^ 61 }
-        ensures { TakesIts register.old register.new self.old self.new end }
+        ensures { TakesIts spare register.old register.new self.old self.new end }
     {
         if !self.may_greet(name) {
             self.excuse(end, b"denied\n");
             return;
         }
-        match register.join(alloc, name) {
+        match register.join(alloc, name, spare) {
             Err(fault) => self.go_without(end, fault),
             Ok(desk) => {
                 let number = number.unwrap_or(register.next_of(desk));
@@ -374,16 +376,24 @@ impl Client {
     }
 
     // Takes the line that ends at a place, no greeting, of a client that is no desk yet: it becomes one by its own name.
-    fn begin(&mut self, alloc: Global, register: &mut Register, asked: &Asked, end: usize)
+    fn begin(
+        &mut self,
+        alloc: Global,
+        register: &mut Register,
+        asked: &Asked,
+        spare: Option<u32>,
+        end: usize,
+    )
         requires first { self.old.desk ≡ None }
+        requires spare { IfSome spare (λ desk. desk < length register.old.desks) }
         requires asked { asked_in (take end self.old.coming) ≡ asked.now }
         requires limits { IsAsked asked.now }
         requires end { position (λ c. c == 10) self.old.coming ≡ Some end }
         requires short { end < MOST_LINE }
         requires used { self.old.used ≤ 2 ^ 61 }
-        ensures { Begins register.old register.new self.old self.new end }
+        ensures { Begins spare register.old register.new self.old self.new end }
     {
-        match register.join(alloc, &self.name) {
+        match register.join(alloc, &self.name, spare) {
             Err(fault) => self.go_without(end, fault),
             Ok(desk) => {
                 let number = register.next_of(desk);
@@ -394,35 +404,50 @@ impl Client {
     }
 
     // Takes the line that ends at a place, by what it asks for.
-    fn take_by(&mut self, alloc: Global, register: &mut Register, asked: &Asked, end: usize)
+    fn take_by(
+        &mut self,
+        alloc: Global,
+        register: &mut Register,
+        asked: &Asked,
+        spare: Option<u32>,
+        end: usize,
+    )
+        requires spare { IfSome spare (λ desk. desk < length register.old.desks) }
         requires within { IsBelow self.old.desk (length register.old.desks) }
         requires asked { asked_in (take end self.old.coming) ≡ asked.now }
         requires limits { IsAsked asked.now }
         requires end { position (λ c. c == 10) self.old.coming ≡ Some end }
         requires short { end < MOST_LINE }
         requires used { self.old.used ≤ 2 ^ 61 }
-        ensures { Begins register.old register.new self.old self.new end }
+        ensures { Begins spare register.old register.new self.old self.new end }
     {
         match (self.desk, asked) {
             (Some(desk), _) => self.answer(alloc, register, desk, asked, end),
             (None, Asked::Greeting { name, number }) => {
-                self.greet(alloc, register, name, *number, end)
+                self.greet(alloc, register, name, *number, spare, end)
             }
-            (None, _) => self.begin(alloc, register, asked, end),
+            (None, _) => self.begin(alloc, register, asked, spare, end),
         }
     }
 
     // Takes the line that ends at a place.
-    fn take_at(&mut self, alloc: Global, register: &mut Register, end: usize) -> Took
+    fn take_at(
+        &mut self,
+        alloc: Global,
+        register: &mut Register,
+        spare: Option<u32>,
+        end: usize,
+    ) -> Took
+        requires spare { IfSome spare (λ desk. desk < length register.old.desks) }
         requires within { IsBelow self.old.desk (length register.old.desks) }
         requires end { position (λ c. c == 10) self.old.coming ≡ Some end }
         requires short { end < MOST_LINE }
         requires used { self.old.used ≤ 2 ^ 61 }
-        ensures takes { Begins register.old register.new self.old self.new end }
+        ensures takes { Begins spare register.old register.new self.old self.new end }
         ensures line { IsLine result }
     {
         let asked = asked_in(part(&self.bytes, self.start, end));
-        self.take_by(alloc, register, &asked, end);
+        self.take_by(alloc, register, &asked, spare, end);
         if takes_long(&asked) {
             Took::LongLine
         } else {
@@ -430,21 +455,28 @@ impl Client {
         }
     }
 
-    /// Takes its next line, if a whole one waits.
-    pub(crate) fn take(&mut self, alloc: Global, register: &mut Register) -> Took
+    /// Takes its next line, if a whole one waits. If it becomes a desk by that, where there are as many as may be, the one that is spare is
+    /// forgotten.
+    pub(crate) fn take(
+        &mut self,
+        alloc: Global,
+        register: &mut Register,
+        spare: Option<u32>,
+    ) -> Took
+        requires spare { IfSome spare (λ desk. desk < length register.old.desks) }
         requires open { self.old.closing ≡ None }
         requires within { IsBelow self.old.desk (length register.old.desks) }
-        ensures takes { Takes register.old self.old register.new self.new }
+        ensures takes { Takes spare register.old self.old register.new self.new }
         ensures seated { IsBelow self.new.desk (length register.new.desks) }
         ensures grown { length register.old.desks ≤ length register.new.desks }
-        ensures took { IsTook register.old register.new self.old self.new result }
+        ensures took { IsTook spare register.old register.new self.old self.new result }
     {
         if self.used > MOST_USED {
             return Took::Nothing;
         }
         let waiting = self.bytes.len() - self.start;
         match line_end(part(&self.bytes, self.start, waiting.min(MOST_LINE))) {
-            Some(end) => self.take_at(alloc, register, end),
+            Some(end) => self.take_at(alloc, register, spare, end),
             None if waiting < MOST_LINE => Took::Nothing,
             None => {
                 self.close(Why::Long);

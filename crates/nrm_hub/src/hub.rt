@@ -1,6 +1,6 @@
 //! The hub: what all desks have in common, the clients by their places, whose turn comes, and who is to be told. Lines are taken in turns;
 //! then the rows of all that was answered are given out, and once they are kept the replies are sent.
-ghost use Rattle.std.specs.Prelude.{ℕ, ◌≡◌, ◌≢◌, ◌<◌, ◌≤◌, ◌∷◌, [], length, Some, None, IfErr, MatchOption, OnErr, OnOk, false, ◌⊎◌};
+ghost use Rattle.std.specs.Prelude.{ℕ, ◌≡◌, ◌≢◌, ◌<◌, ◌≤◌, ◌∷◌, [], get_or, length, Some, None, IfErr, IfSome, MatchBool, MatchOption, OnErr, OnOk, false, ◌⊎◌};
 ghost use Rattle.nrm_edge.specs.Causes.{HasCause};
 ghost use Rattle.nrm_frames.specs.declared.header.Header.TheVariants as header;
 ghost use Rattle.nrm_hub.specs.Again.{FailsAgain};
@@ -8,8 +8,10 @@ ghost use Rattle.nrm_frames.specs.declared.limits.TheConstants.{LAST_PLACE};
 ghost use Rattle.nrm_hub.specs.Due.{AreDue, DueValue, IsDue, StillDue, StillDueBeside, due_count};
 ghost use Rattle.nrm_hub.specs.Goes.{Goes, Puts, PutsCut};
 ghost use Rattle.nrm_hub.specs.Hub.{client_at, new_hub};
-ghost use Rattle.nrm_hub.specs.Inner.Seats.{AreListed, AreSo, ClosesAt, HasPlaces, IsDeskAt, IsQuietAt, MakesSo, Only, TakesAt, WasClosed, WasSent};
+ghost use Rattle.nrm_hub.specs.Inner.Seats.{AreListed, AreSo, ClosesAt, HasPlaces, IsDeskAt, IsQuietAt, IsDeskOf, IsSomebodys, MakesSo, Only, TakesBy, WasClosed, WasSent};
+ghost use Rattle.nrm_hub.specs.Clients.{ClientValue};
 ghost use Rattle.nrm_hub.specs.Seats.{AreSeated, IsOpened};
+ghost use Rattle.nrm_hub.specs.Spare.{IsForgettable, IsSpare};
 ghost use Rattle.nrm_hub.specs.Waiting.{HadTurn, IsAtRest, IsTold, NothingIsDue, OfEach};
 ghost use Rattle.nrm_hub.specs.World.{frame};
 ghost use Rattle.nrm_hub.specs.declared.phase.Phase.TheVariants as phase;
@@ -17,7 +19,7 @@ ghost use Rattle.nrm_hub.specs.declared.phase.Phase.TheVariants as phase;
 use crate::again::{AgainFault, give_again};
 use crate::client::{Client, Took};
 use crate::due::Due;
-use crate::limits::MOST_LINES;
+use crate::limits::{MOST_DESKS, MOST_LINES};
 use crate::phase::Phase;
 use crate::register::Register;
 use nrm_control::Controller;
@@ -99,13 +101,6 @@ impl Hub {
         ensures { result ≡ self.now.phase }
     {
         self.phase
-    }
-
-    /// Whether there is a place for a client, be anybody there or not.
-    pub fn has_places(&self) -> bool
-        ensures { result ≡ false → self.now.clients ≡ [] }
-    {
-        !self.clients.is_empty()
     }
 
     /// Gives rows of the journal again, before there is any client.
@@ -609,6 +604,72 @@ fn close_at(clients: &mut Vec<Option<Client>>, due: &mut Due, heard: &mut Due, p
     }
 }
 
+// Whether the client at a place is a desk.
+fn is_desk_at(clients: &[Option<Client>], place: usize, desk: u32) -> bool
+    ensures { MatchBool result (IsDeskOf clients.now place desk) (IsDeskOf clients.now place desk → ⊥) }
+{
+    match clients.get(place) {
+        Some(Some(client)) => client.desk() == Some(desk),
+        _ => false,
+    }
+}
+
+// Whether some client is a desk: the one at the place of the hint, if there is one, or any other.
+fn is_somebodys(clients: &[Option<Client>], desk: u32, hint: Option<u16>) -> bool
+    ensures { MatchBool result (IsSomebodys clients.now desk) (IsSomebodys clients.now desk → ⊥) }
+{
+    match hint {
+        Some(place) if is_desk_at(clients, place as usize, desk) => true,
+        _ => is_anybodys(clients, desk),
+    }
+}
+
+// Whether some client is a desk.
+fn is_anybodys(clients: &[Option<Client>], desk: u32) -> bool
+    ensures { MatchBool result (IsSomebodys clients.now desk) (IsSomebodys clients.now desk → ⊥) }
+{
+    for place in 0..clients.len() {
+        if is_desk_at(clients, place, desk) {
+            return true;
+        }
+    }
+    false
+}
+
+// Whether a desk may be forgotten.
+fn is_forgettable(register: &Register, clients: &[Option<Client>], desk: u32) -> bool
+    requires { desk < length register.now.desks }
+    ensures { MatchBool result (IsForgettable register.now clients.now desk) (IsForgettable register.now clients.now desk → ⊥) }
+{
+    register.is_unused(desk) && !is_somebodys(clients, desk, register.client_of(desk))
+}
+
+// A desk that may be forgotten, if there is one.
+fn first_spare(register: &Register, clients: &[Option<Client>]) -> Option<u32>
+    ensures { MatchOption result ((desk : ℕ) → IsForgettable register.now clients.now desk → ⊥) (IsForgettable register.now clients.now) }
+{
+    for desk in 0..register.count() as u32 {
+        if is_forgettable(register, clients, desk) {
+            return Some(desk);
+        }
+    }
+    None
+}
+
+// The desk that is forgotten if the client at a place becomes one and there are as many as may be; none for a client that is a desk already.
+fn spare_for(register: &Register, clients: &[Option<Client>], place: u16) -> Option<u32>
+    ensures spare { (client : ClientValue) → get_or clients.now place None ≡ Some client → client.desk ≡ None → IsSpare register.now clients.now result }
+    ensures within { IfSome result (λ desk. desk < length register.now.desks) }
+{
+    if register.count() < MOST_DESKS {
+        return None;
+    }
+    match clients.get(place as usize) {
+        Some(Some(client)) if client.desk().is_none() => first_spare(register, clients),
+        _ => None,
+    }
+}
+
 // Takes the next line of the client at a place, if somebody is there who isn't to be closed.
 fn take_at(
     alloc: Global,
@@ -618,7 +679,7 @@ fn take_at(
     place: u16,
 ) -> Took
     requires { AreSeated clients.old.items (length register.old.desks) }
-    ensures takes { TakesAt register.old register.new clients.old.items place clients.new.items result }
+    ensures takes { TakesBy register.old register.new clients.old.items place clients.new.items result }
     ensures seated { AreSeated clients.new.items (length register.new.desks) }
     ensures due { (due : DueValue) → AreDue clients.old.items due heard.old → AreDue clients.new.items due heard.new }
 {
@@ -626,13 +687,14 @@ fn take_at(
     if at >= clients.len() {
         return Took::Nothing;
     }
+    let spare = spare_for(register, clients, place);
     let Some(client) = &mut clients[at] else {
         return Took::Nothing;
     };
     if client.closing().is_some() {
         return Took::Nothing;
     }
-    let took = client.take(alloc, register);
+    let took = client.take(alloc, register, spare);
     list(heard, client, place);
     took
 }

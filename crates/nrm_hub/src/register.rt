@@ -1,12 +1,12 @@
 //! What all desks have in common: the controller, the desks by their numbers with a table of their names, whose each booking is, and the rows
 //! of the journal that were not given out yet. Room for a row is reserved before its line is carried out.
-ghost use Rattle.std.specs.Prelude.{◌≡◌, ◌+◌, ◌<◌, ◌≤◌, ◌++◌, ◌∷◌, [], Contains, length, vec_capacity, vec_len, IfErr, IfOk, IfSome, None, OnErr, OnOk, false, true};
+ghost use Rattle.std.specs.Prelude.{◌≡◌, ◌==◌, ◌+◌, ◌<◌, ◌≤◌, ◌++◌, ◌∷◌, [], Contains, length, vec_capacity, vec_len, IfErr, IfOk, IfSome, None, OnErr, OnOk, false, true};
 ghost use Rattle.nrm_stream.specs.Commands.{IsCommand};
 ghost use Rattle.nrm_session.specs.Answering.{IsTellable, reply_in};
 ghost use Rattle.nrm_hub.specs.Asked.{allows, is_change};
 ghost use Rattle.nrm_hub.specs.Inner.Answered.{CarriesOut, IsJoinFault};
 ghost use Rattle.nrm_hub.specs.Lines.{reason_used, row_under};
-ghost use Rattle.nrm_hub.specs.Register.{DeskValue, IsTold, Joins, Passes, desk_at, desk_named, new_desk, new_register, owners_after, trimmed};
+ghost use Rattle.nrm_hub.specs.Register.{DeskValue, IsTold, Joins, Passes, desk_at, desk_named, new_desk, new_register, owners_after, renamed, trimmed};
 ghost use Rattle.nrm_hub.specs.declared.limits.TheConstants.{LAST_SEQUENCE, MOST_DESKS, MOST_HELD, MOST_ROWS};
 
 use crate::asked::allows;
@@ -43,7 +43,7 @@ impl Model for Desk {
 /// Why a name has no desk.
 #[derive(Clone, Copy, Debug, PartialEq, Eq)]
 pub(crate) enum JoinFault {
-    /// There are as many desks as there may be.
+    /// There are as many desks as there may be, and none is spare.
     TooMany,
     /// Memory runs out.
     NoMemory,
@@ -190,6 +190,29 @@ impl Register {
         self.rows
     }
 
+    /// How many desks there are.
+    pub(crate) fn count(&self) -> usize
+        ensures count { result ≡ length self.now.desks }
+        ensures within { result ≤ MOST_DESKS }
+    {
+        self.desks.len()
+    }
+
+    /// Whether a desk has no row.
+    pub(crate) fn is_unused(&self, desk: u32) -> bool
+        requires { desk < length self.now.desks }
+        ensures { result ≡ ((desk_at self.now desk).next == 1) }
+    {
+        self.desks[desk as usize].next == 1
+    }
+
+    /// The place of the client that is a desk, as a hint.
+    pub(crate) fn client_of(&self, desk: u32) -> Option<u16>
+        requires { desk < length self.now.desks }
+    {
+        self.desks[desk as usize].client
+    }
+
     /// The rows that were not given out yet.
     pub(crate) fn text(&self) -> &[u8]
         ensures { result.now ≡ self.now.text }
@@ -265,17 +288,54 @@ impl Register {
         }
     }
 
-    // The number of the desk of a name that has none yet, which is added.
-    fn join_new(&mut self, alloc: Global, name: &Name) -> Result<u32, JoinFault>
-        requires { desk_named self.old name.now ≡ None }
-        ensures joins { IfOk result (λ desk. Joins self.old name.now self.new desk) }
+    // Gives the number of a desk to a name that has none.
+    fn rename(&mut self, alloc: Global, desk: u32, name: &Name) -> Result<(), AllocError>
+        requires there { desk < length self.old.desks }
+        requires new { desk_named self.old name.now ≡ None }
+        ensures renamed { OnOk result (self.new ≡ renamed self.old desk name.now) }
+        ensures err { OnErr result (self.new ≡ self.old) }
+    {
+        self.names.rename(desk as usize, *name)?;
+        self.desks[desk as usize] = Desk::new(alloc, *name);
+        Ok(())
+    }
+
+    // The number of the desk of a name that has none yet, where there are as many as may be: that of the one that is spare.
+    fn join_in_place(
+        &mut self,
+        alloc: Global,
+        name: &Name,
+        spare: Option<u32>,
+    ) -> Result<u32, JoinFault>
+        requires new { desk_named self.old name.now ≡ None }
+        requires full { MOST_DESKS ≤ length self.old.desks }
+        requires spare { IfSome spare (λ desk. desk < length self.old.desks) }
+        ensures joins { IfOk result (λ desk. Joins spare self.old name.now self.new desk) }
         ensures within { IfOk result (λ desk. desk < length self.new.desks) }
         ensures err { OnErr result (self.new ≡ self.old) }
-        ensures cause { IfErr result (IsJoinFault self.old) }
+        ensures cause { IfErr result (IsJoinFault spare self.old) }
+    {
+        let Some(desk) = spare else {
+            return Err(JoinFault::TooMany);
+        };
+        match self.rename(alloc, desk, name) {
+            Ok(()) => Ok(desk),
+            Err(_) => Err(JoinFault::NoMemory),
+        }
+    }
+
+    // The number of the desk of a name that has none yet, which is added, or has the number of the one that is spare.
+    fn join_new(&mut self, alloc: Global, name: &Name, spare: Option<u32>) -> Result<u32, JoinFault>
+        requires new { desk_named self.old name.now ≡ None }
+        requires spare { IfSome spare (λ desk. desk < length self.old.desks) }
+        ensures joins { IfOk result (λ desk. Joins spare self.old name.now self.new desk) }
+        ensures within { IfOk result (λ desk. desk < length self.new.desks) }
+        ensures err { OnErr result (self.new ≡ self.old) }
+        ensures cause { IfErr result (IsJoinFault spare self.old) }
     {
         let desk = self.desks.len();
         if desk >= MOST_DESKS {
-            return Err(JoinFault::TooMany);
+            return self.join_in_place(alloc, name, spare);
         }
         match self.add(alloc, name) {
             Ok(()) => Ok(desk as u32),
@@ -283,19 +343,26 @@ impl Register {
         }
     }
 
-    /// The number of the desk of a name, which is added if it isn't there.
+    /// The number of the desk of a name, which is added if it isn't there. Where there are as many as may be it has the number of the one
+    /// that is spare, which is forgotten.
     ///
     /// # Errors
-    /// There are as many desks as there may be; memory runs out.
-    pub(crate) fn join(&mut self, alloc: Global, name: &Name) -> Result<u32, JoinFault>
-        ensures joins { IfOk result (λ desk. Joins self.old name.now self.new desk) }
+    /// There are as many desks as there may be, and none is spare; memory runs out.
+    pub(crate) fn join(
+        &mut self,
+        alloc: Global,
+        name: &Name,
+        spare: Option<u32>,
+    ) -> Result<u32, JoinFault>
+        requires spare { IfSome spare (λ desk. desk < length self.old.desks) }
+        ensures joins { IfOk result (λ desk. Joins spare self.old name.now self.new desk) }
         ensures within { IfOk result (λ desk. desk < length self.new.desks) }
         ensures err { OnErr result (self.new ≡ self.old) }
-        ensures cause { IfErr result (IsJoinFault self.old) }
+        ensures cause { IfErr result (IsJoinFault spare self.old) }
     {
         match self.names.number_of(name) {
             Some(desk) => Ok(desk as u32),
-            None => self.join_new(alloc, name),
+            None => self.join_new(alloc, name, spare),
         }
     }
 

@@ -1,5 +1,5 @@
 -- What private functions answer.
-use Rattle.std.specs.Prelude.{ℕ, ◌≡◌, ◌<◌, ◌≤◌, true, List, ◌++◌, length, take, ⊤}
+use Rattle.std.specs.Prelude.{ℕ, ◌≡◌, ◌<◌, ◌≤◌, true, List, ◌++◌, length, take, Option, None, ⊤}
 use Rattle.nrm_stream.specs.declared.command.Command.{Command}
 use Rattle.nrm_session.specs.Replies.{memory}
 use Rattle.nrm_session.specs.declared.reply.Reply.{Reply as Answered}
@@ -14,9 +14,9 @@ use Rattle.nrm_hub.specs.declared.line.Taken.{Taken}
 use Rattle.nrm_hub.specs.declared.line.Taken.TheVariants as taken
 
 -- why a name has no desk
-abbrev pub IsJoinFault : RegisterValue → JoinFault → Type 0
-IsJoinFault r join.TooMany = MOST_DESKS ≤ length r.desks
-IsJoinFault r join.NoMemory = ⊤
+abbrev pub IsJoinFault : Option ℕ → RegisterValue → JoinFault → Type 0
+IsJoinFault spare r join.TooMany = (MOST_DESKS ≤ length r.desks) × (spare ≡ None)
+IsJoinFault spare r join.NoMemory = ⊤
 
 -- a line that may change something was carried out: memory ran out as it was, or it has its row
 pub data CarriesOut (old new : RegisterValue) (desk sequence : ℕ) (c : Command) : Answered → Type 0 where

@@ -31,7 +31,7 @@ pub record CarriesRow (old new : RegisterValue) (row : ReadRow) : Type 0 where
   pub joined : RegisterValue
   pub desk : ℕ
   pub reply : Answered
-  pub joins : Joins old row.name joined desk
+  pub joins : Joins None old row.name joined desk
   pub next : (desk_at joined desk).next ≤ row.sequence
   pub carries : Carries joined new desk row.sequence row.command reply
 

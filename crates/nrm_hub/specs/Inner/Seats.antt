@@ -6,6 +6,7 @@ use Rattle.nrm_hub.specs.Clients.{ClientValue, closed_for}
 use Rattle.nrm_hub.specs.Hub.{HubValue, client_at}
 use Rattle.nrm_hub.specs.Inner.Taking.{IsTook}
 use Rattle.nrm_hub.specs.Register.{RegisterValue}
+use Rattle.nrm_hub.specs.Spare.{IsSpare}
 use Rattle.nrm_hub.specs.Due.{DueValue, IsDue, due_at}
 use Rattle.nrm_hub.specs.Waiting.{IsAtRest}
 use Rattle.nrm_hub.specs.World.{TakesNothing}
@@ -23,10 +24,24 @@ pub data ClosesAt (clients : List (Option ClientValue)) (place : ℕ) (reason : 
   stays : TakesNothing (get_or clients place None) → ClosesAt clients place reason clients
 
 -- what was taken of the client at a place; or nobody is there of whom a line is taken
-pub data TakesAt (r r' : RegisterValue) (clients : List (Option ClientValue)) (place : ℕ) : List (Option ClientValue) → Took → Type 0 where
-  takes : (c c' : ClientValue) (result : Took) → get_or clients place None ≡ Some c → c.closing ≡ None → IsTook r r' c c' result
-      → TakesAt r r' clients place (slice_set clients place (Some c')) result
-  nobody : r' ≡ r → TakesNothing (get_or clients place None) → TakesAt r r' clients place clients took.Nothing
+pub data TakesAt (spare : Option ℕ) (r r' : RegisterValue) (clients : List (Option ClientValue)) (place : ℕ) : List (Option ClientValue) → Took → Type 0 where
+  takes : (c c' : ClientValue) (result : Took) → get_or clients place None ≡ Some c → c.closing ≡ None → IsTook spare r r' c c' result
+      → TakesAt spare r r' clients place (slice_set clients place (Some c')) result
+  nobody : r' ≡ r → TakesNothing (get_or clients place None) → TakesAt spare r r' clients place clients took.Nothing
+
+-- what was taken of the client at a place, for which the spare desk may be forgotten if it is none yet
+pub record TakesBy (r r' : RegisterValue) (clients : List (Option ClientValue)) (place : ℕ) (clients' : List (Option ClientValue)) (result : Took)
+    : Type 0 where
+  pub spare : Option ℕ
+  pub is_spare : (c : ClientValue) → get_or clients place None ≡ Some c → c.desk ≡ None → IsSpare r clients spare
+  pub takes : TakesAt spare r r' clients place clients' result
+
+-- the client at a place is this desk; somebody is
+abbrev pub IsDeskOf : List (Option ClientValue) → ℕ → ℕ → Type 0
+IsDeskOf clients place desk = (c : ClientValue) × (get_or clients place None ≡ Some c) × (c.desk ≡ Some desk)
+
+abbrev pub IsSomebodys : List (Option ClientValue) → ℕ → Type 0
+IsSomebodys clients desk = (place : ℕ) × IsDeskOf clients place desk
 
 -- places that nobody was at were added behind the others
 abbrev pub HasPlaces : List (Option ClientValue) → List (Option ClientValue) → Type 0

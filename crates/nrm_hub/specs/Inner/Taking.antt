@@ -1,5 +1,5 @@
 -- What private functions take of a client.
-use Rattle.std.specs.Prelude.{ℕ, ◌≡◌, ◌==◌, ◌+◌, ◌<◌, ◌≤◌, ◌⊎◌, false, List, All, drop, length, position, take, Some, None, ⊤}
+use Rattle.std.specs.Prelude.{ℕ, ◌≡◌, ◌==◌, ◌+◌, ◌<◌, ◌≤◌, ◌⊎◌, false, List, All, drop, length, position, take, Option, Some, None, ⊤}
 use Rattle.nrm_frames.specs.declared.why.Why.TheVariants as why
 use Rattle.nrm_hub.specs.Clients.{ClientValue, Hears, after_line, closed_for, joined_as, with_piece}
 use Rattle.nrm_hub.specs.Lines.{How, memory_line}
@@ -33,10 +33,10 @@ answered_as c line rest become.Cut = closed_for (record (after_line c line rest)
 answered_as c line rest (become.Refused reason) = closed_for (after_line c line rest) reason
 
 -- the line that ends at a place was taken
-pub record TakesIts (r r' : RegisterValue) (c c' : ClientValue) (end : ℕ) : Type 0 where
+pub record TakesIts (spare : Option ℕ) (r r' : RegisterValue) (c c' : ClientValue) (end : ℕ) : Type 0 where
   pub how : How
   pub text : List ℕ
-  pub takes : TakesLine r c (take end c.coming) (drop (end + 1) c.coming) r' c' how text
+  pub takes : TakesLine spare r c (take end c.coming) (drop (end + 1) c.coming) r' c' how text
 
 -- it was used, and a text joins what waits
 abbrev pub Excuses : ClientValue → ClientValue → ℕ → List ℕ → Type 0
@@ -48,24 +48,24 @@ GoesWithout c c' end join.NoMemory = Excuses c c' end memory_line
 GoesWithout c c' end join.TooMany = c' ≡ closed_for (after_line c (take end c.coming) (drop (end + 1) c.coming)) why.Desks
 
 -- it was taken, by a client that perhaps became a desk before
-pub data Begins (r r' : RegisterValue) (c c' : ClientValue) (end : ℕ) : Type 0 where
-  taken : TakesIts r r' c c' end → Begins r r' c c' end
-  joined : (mid : RegisterValue) (d : ℕ) → c.desk ≡ None → Joins r c.name mid d
-      → TakesIts mid r' (joined_as c d (desk_at mid d).next) c' end → Begins r r' c c' end
+pub data Begins (spare : Option ℕ) (r r' : RegisterValue) (c c' : ClientValue) (end : ℕ) : Type 0 where
+  taken : TakesIts spare r r' c c' end → Begins spare r r' c c' end
+  joined : (mid : RegisterValue) (d : ℕ) → c.desk ≡ None → Joins spare r c.name mid d
+      → TakesIts spare mid r' (joined_as c d (desk_at mid d).next) c' end → Begins spare r r' c c' end
 
 -- a line was taken, or none; or a line is too long
-pub data Takes (r : RegisterValue) (c : ClientValue) : RegisterValue → ClientValue → Type 0 where
-  nothing : Takes r c r c
+pub data Takes (spare : Option ℕ) (r : RegisterValue) (c : ClientValue) : RegisterValue → ClientValue → Type 0 where
+  nothing : Takes spare r c r c
   line : (end : ℕ) (r' : RegisterValue) (c' : ClientValue) → position (λ byte. byte == 10) c.coming ≡ Some end → end < MOST_LINE
-      → Begins r r' c c' end → Takes r c r' c'
-  too_long : MOST_LINE ≤ length c.coming → All (λ byte. (byte == 10) ≡ false) (take MOST_LINE c.coming) → Takes r c r (closed_for c why.Long)
+      → Begins spare r r' c c' end → Takes spare r c r' c'
+  too_long : MOST_LINE ≤ length c.coming → All (λ byte. (byte == 10) ≡ false) (take MOST_LINE c.coming) → Takes spare r c r (closed_for c why.Long)
 
 -- a line was taken
-pub record TakesNext (r r' : RegisterValue) (c c' : ClientValue) : Type 0 where
+pub record TakesNext (spare : Option ℕ) (r r' : RegisterValue) (c c' : ClientValue) : Type 0 where
   pub end : ℕ
   pub ends : position (λ byte. byte == 10) c.coming ≡ Some end
   pub short : end < MOST_LINE
-  pub begins : Begins r r' c c' end
+  pub begins : Begins spare r r' c c' end
 
 abbrev pub IsLine : Took → Type 0
 IsLine took.Line = ⊤
@@ -74,9 +74,9 @@ IsLine took.Nothing = ⊥
 IsLine took.TooLong = ⊥
 
 -- what was taken, by what is said of it
-abbrev pub IsTook : RegisterValue → RegisterValue → ClientValue → ClientValue → Took → Type 0
-IsTook r r' c c' took.Nothing = (r' ≡ r) × (c' ≡ c) × ((0 < c.used) ⊎ HasNoLine c)
-IsTook r r' c c' took.Line = TakesNext r r' c c'
-IsTook r r' c c' took.LongLine = TakesNext r r' c c'
-IsTook r r' c c' took.TooLong = (r' ≡ r) × (c' ≡ closed_for c why.Long) × (MOST_LINE ≤ length c.coming)
+abbrev pub IsTook : Option ℕ → RegisterValue → RegisterValue → ClientValue → ClientValue → Took → Type 0
+IsTook spare r r' c c' took.Nothing = (r' ≡ r) × (c' ≡ c) × ((0 < c.used) ⊎ HasNoLine c)
+IsTook spare r r' c c' took.Line = TakesNext spare r r' c c'
+IsTook spare r r' c c' took.LongLine = TakesNext spare r r' c c'
+IsTook spare r r' c c' took.TooLong = (r' ≡ r) × (c' ≡ closed_for c why.Long) × (MOST_LINE ≤ length c.coming)
     × All (λ byte. (byte == 10) ≡ false) (take MOST_LINE c.coming)

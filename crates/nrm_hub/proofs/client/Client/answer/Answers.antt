@@ -10,13 +10,13 @@ use Rattle.nrm_hub.proofs.ClientLines.{answered-line, used-up}
 use Rattle.nrm_hub.proofs.client.Client.answer.Goals as goal
 
 pub returns-then-self-gt-LAST_SEQUENCE : goal.returns-then-self-gt-LAST_SEQUENCE
-returns-then-self-gt-LAST_SEQUENCE c =
+returns-then-self-gt-LAST_SEQUENCE c spare =
     let beyond : LAST_SEQUENCE < c.args.self.now.number = omega (arith, c.if-self-gt-LAST_SEQUENCE.true, ap (λ (x : ClientValue). x.number) c.self.view_is) in
     used-up c.args.register.now c.args.self.now c.close.new.self c.args.desk c.args.end c.requires.desk beyond
     (c.close.ensures ∙ ap (λ (x : ClientValue). closed_for x why.Sequence) c.use_line.ensures)
 
 pub returns : goal.returns
-returns c =
+returns c spare =
     let was : ClientValue = record {
       serial = c.self.inside.serial;
       name = c.self.inside.name;
@@ -38,5 +38,5 @@ returns c =
     let given : IsAnswered r r' was.rights c.args.desk was.number (take end was.coming) was.told told result =
     c.answer_line-taken.ensures (take end was.coming) asks in
     let is : was.desk ≡ Some c.args.desk = ap (λ (x : ClientValue). x.desk) c.self.view_is ∙ c.requires.desk in
-    subst (λ (x : ClientValue). TakesIts r r' x c.enter.new.self end) c.self.view_is
-    (subst (λ (x : ClientValue). TakesIts r r' was x end) (sym c.enter.ensures) (answered-line r r' was c.args.desk end told result is given))
+    subst (λ (x : ClientValue). TakesIts spare r r' x c.enter.new.self end) c.self.view_is
+    (subst (λ (x : ClientValue). TakesIts spare r r' was x end) (sym c.enter.ensures) (answered-line r r' was c.args.desk end told result is given))

@@ -7,16 +7,16 @@ use Rattle.nrm_hub.proofs.ClientLines.{without}
 use Rattle.nrm_hub.proofs.client.Client.begin.Goals as goal
 
 pub returns-in-Err : goal.returns-in-Err
-returns-in-Err c = taken (without c.args.register.now c.join.new.self c.args.self.now c.go_without.new.self c.args.end c.in-Err.fault c.requires.first
+returns-in-Err c = taken (without c.args.spare c.args.register.now c.join.new.self c.args.self.now c.go_without.new.self c.args.end c.in-Err.fault c.requires.first
     c.in-Err.ensures.err c.in-Err.ensures.cause c.go_without.ensures)
 
 pub returns-in-Ok : goal.returns-in-Ok
 returns-in-Ok c =
     let mid = c.join.new.self in
     let d : ℕ = c.in-Ok.desk in
-    let joins : Joins c.args.register.now c.args.self.now.name mid d =
-    subst (λ (x : ClientValue). Joins c.args.register.now x.name mid d) c.self.view_is c.in-Ok.ensures.joins in
+    let joins : Joins c.args.spare c.args.register.now c.args.self.now.name mid d =
+    subst (λ (x : ClientValue). Joins c.args.spare c.args.register.now x.name mid d) c.self.view_is c.in-Ok.ensures.joins in
     let seat : c.seat.new.self ≡ joined_as c.args.self.now d (desk_at mid d).next =
     c.seat.ensures ∙ ap (λ (n : ℕ). joined_as c.args.self.now d n) c.next_of-number.ensures.next in
     joined mid d c.requires.first joins
-    (subst (λ (x : ClientValue). TakesIts mid c.answer.new.register x c.answer.new.self c.args.end) seat c.answer.ensures)
+    (subst (λ (x : ClientValue). TakesIts c.args.spare mid c.answer.new.register x c.answer.new.self c.args.end) seat (c.answer.ensures c.args.spare))

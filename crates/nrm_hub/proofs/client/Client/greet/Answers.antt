@@ -27,5 +27,5 @@ returns-in-Ok c =
     (subst (λ (x : ClientValue). Excuses x c.excuse-in-Ok.new.self c.args.end (at_line n)) c.seat.ensures hears)
 
 pub returns-in-Err : goal.returns-in-Err
-returns-in-Err c = without c.args.register.now c.join.new.self c.args.self.now c.go_without.new.self c.args.end c.in-Err.fault c.requires.first
+returns-in-Err c = without c.args.spare c.args.register.now c.join.new.self c.args.self.now c.go_without.new.self c.args.end c.in-Err.fault c.requires.first
     c.in-Err.ensures.err c.in-Err.ensures.cause c.go_without.ensures

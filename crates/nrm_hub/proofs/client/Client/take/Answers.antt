@@ -26,7 +26,7 @@ take_at-requires-clause-end c =
     (place c.self.inside.start c.min.result c.self.inside.bytes.items c.deref.result.now c.part.result.now coming (Some c.in-Some.end) c.part.ensures
     c.deref.ensures.value (ap (λ (x : ClientValue). x.coming) c.self.view_is) c.in-Some.ensures)).0
 
-takes-now : (c : goal.After-take_at) → Takes c.args.register.now c.args.self.now c.take_at.new.register c.take_at.new.self
+takes-now : (c : goal.After-take_at) → Takes c.args.spare c.args.register.now c.args.self.now c.take_at.new.register c.take_at.new.self
 takes-now c =
     let coming : List ℕ = c.args.self.now.coming in
     let ends = front-place (λ c. c == 10) coming c.min.result c.in-Some.end
@@ -39,11 +39,11 @@ returns-in-Some-clause-takes c = takes-now c
 
 pub returns-in-Some-clause-seated : goal.returns-in-Some-clause-seated
 returns-in-Some-clause-seated c =
-    (takes-seated c.args.register.now c.args.self.now c.take_at.new.register c.take_at.new.self (takes-now c) c.requires.within).0
+    (takes-seated c.args.register.now c.args.self.now c.take_at.new.register c.take_at.new.self (takes-now c) c.requires.spare c.requires.within).0
 
 pub returns-in-Some-clause-grown : goal.returns-in-Some-clause-grown
 returns-in-Some-clause-grown c =
-    (takes-seated c.args.register.now c.args.self.now c.take_at.new.register c.take_at.new.self (takes-now c) c.requires.within).1
+    (takes-seated c.args.register.now c.args.self.now c.take_at.new.register c.take_at.new.self (takes-now c) c.requires.spare c.requires.within).1
 
 pub returns-in-Some-clause-took : goal.returns-in-Some-clause-took
 returns-in-Some-clause-took c =
@@ -88,7 +88,7 @@ long-now c =
 pub returns-in-None-2-clause-takes : goal.returns-in-None-2-clause-takes
 returns-in-None-2-clause-takes c =
     let (long, none) = long-now c in
-    subst (λ (x : ClientValue). Takes c.args.register.now c.args.self.now c.args.register.now x) (sym c.close.ensures) (too_long long none)
+    subst (λ (x : ClientValue). Takes c.args.spare c.args.register.now c.args.self.now c.args.register.now x) (sym c.close.ensures) (too_long long none)
 
 pub returns-in-None-2-clause-took : goal.returns-in-None-2-clause-took
 returns-in-None-2-clause-took c = let (long, none) = long-now c in (refl, c.close.ensures, long, none)

@@ -47,7 +47,7 @@ returns-in-Line-clause-turn c =
     let taken = c.take_at-took.new.clients.items in
     subst (λ (cs : List (Option ClientValue)). MakesSo HadTurn cs c.seat.new.self.clients c.args.place) (ap (λ (h : HubValue). h.clients) c.self.view_is)
     (makes-on HadTurn clients taken c.seat.new.self.clients c.args.place
-    (took-so c.self.inside.register c.take_at-took.new.register clients c.args.place taken c.take_at-took.result c.take_at-took.ensures.takes)
+    (took-so c.self.inside.register c.take_at-took.new.register clients c.args.place taken c.take_at-took.result c.take_at-took.ensures.takes.takes)
     c.seat.ensures.turn)
 
 pub returns-in_default-clause-turn : goal.returns-in_default-clause-turn
@@ -55,4 +55,4 @@ returns-in_default-clause-turn c =
     let clients = c.self.inside.clients.items in
     let taken = c.take_at-took.new.clients.items in
     subst (λ (cs : List (Option ClientValue)). MakesSo HadTurn cs taken c.args.place) (ap (λ (h : HubValue). h.clients) c.self.view_is)
-    (took-so c.self.inside.register c.take_at-took.new.register clients c.args.place taken c.take_at-took.result c.take_at-took.ensures.takes)
+    (took-so c.self.inside.register c.take_at-took.new.register clients c.args.place taken c.take_at-took.result c.take_at-took.ensures.takes.takes)

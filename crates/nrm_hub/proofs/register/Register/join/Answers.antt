@@ -23,6 +23,8 @@ returns-in-Some-clause-within c =
     subst (λ (r : RegisterValue). c.in-Some.desk < length r.desks) c.self.view_is below
 
 pub join_new-requires : goal.join_new-requires
-join_new-requires c =
-    sym (c.in-None.ensures ∙ number-same (λ (desk : DeskValue). desk.name) c.args.name.now c.self.inside.desks.items c.self.inside.names c.self.invariant.1
-    ∙ ap (λ (r : RegisterValue). desk_named r c.args.name.now) c.self.view_is)
+join_new-requires c = record {
+  new = sym (c.in-None.ensures ∙ number-same (λ (desk : DeskValue). desk.name) c.args.name.now c.self.inside.desks.items c.self.inside.names c.self.invariant.1
+      ∙ ap (λ (r : RegisterValue). desk_named r c.args.name.now) c.self.view_is);
+  spare = c.requires.spare;
+}

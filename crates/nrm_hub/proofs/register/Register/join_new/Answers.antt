@@ -9,5 +9,5 @@ returns-in-Ok-clause-joins c =
     let more : RegisterValue = record old { desks = old.desks ++ new_desk c.args.name.now ∷ [] } in
     let count : c.len-desk.result ≡ length old.desks =
     omega (arith, c.len-desk.ensures, c.self.inside.desks.ok.0, ap (λ (r : RegisterValue). length r.desks) c.self.view_is) in
-    subst (λ (r : RegisterValue). Joins old c.args.name.now r c.len-desk.result) (sym c.in-Ok.ensures.added)
-    (subst (λ (d : ℕ). Joins old c.args.name.now more d) (sym count) (added c.requires))
+    subst (λ (r : RegisterValue). Joins c.args.spare old c.args.name.now r c.len-desk.result) (sym c.in-Ok.ensures.added)
+    (subst (λ (d : ℕ). Joins c.args.spare old c.args.name.now more d) (sym count) (added c.requires.new))
