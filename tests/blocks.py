@@ -2,7 +2,8 @@
 
 A block is what is indented by four blanks or more behind an empty line. A part of it that begins with the name of a
 command is run; any other shows something. What is shown behind commands must have been printed by those above it under
-the same heading, or written by them into files of the folder `mine`, which the pages write to.
+the same heading, or written by them into files of the folder `mine`, which the pages write to. Lines of a stream with
+their replies beside them may also stand above the commands that answer that stream.
 """
 import os
 import re
@@ -14,22 +15,26 @@ from pathlib import Path
 
 SECONDS = 300  # that the commands of a page may take in all
 COMMANDS = """nrm nrm-tools nrm_kept nrm_why nrm_desks ./nrm ./nrm_kept ./nrm_why ./nrm_desks ./nrm-tools
-    .ci/run tools/release.sh apt-get awk cat cc cmp coproc createuser curl echo esolver export for git glpsol
+    tools/release.sh apt-get awk cat cc cmp coproc createuser curl echo esolver export for git glpsol
     grep head install kill mkdir openssl patronictl printf python3 /usr/bin/python3 rm sed sender socat sqlite3
     systemctl tail tests/databases.py until useradd {""".split()
 ASSIGNED = re.compile(r"[a-z]+=")
 TOLD = re.compile(r"nrm-tools [a-z]+: ")  # what a command tells on standard error
 ELIDED = re.compile(r"\s*\.\.+\s*")  # a line that stands for several
+ANSWERED = re.compile(r"(?:book|cancel|leg|plan|reoptimise|hindsight)\b.* {2,}\S")  # a line of a stream, and its reply
+STREAM = re.compile(r" < (\S+)$")  # the file at the end of the commands that answer it
 MARK = "blocks.py"
 
 
 @dataclass
 class Part:
-    """A part of a block: its page and line, its lines, and, if it shows something, the commands that may print it."""
+    """A part of a block: its page and line, its lines, and, if it shows something, the commands that may print it, or
+    those below that answer what it shows."""
     page: str
     line: int
     lines: list
     shows: list = field(default_factory=list, repr=False)
+    answered_by: "Part | None" = field(default=None, repr=False)
     out: str = field(default="", repr=False)
     status: "int | None" = None
 
@@ -64,14 +69,28 @@ def parts_of(path):
         part, is_block = None, is_block and not line.strip()
         if line.startswith("#"):
             found.append(None)  # a heading: what is shown below it isn't of the commands above
+    exchange = None
     for part in found:
         if part is None:
-            above = []
+            above, exchange = [], None
         elif part.is_run():
             above = [*above, part]
+            if exchange and STREAM.search(part.lines[-1]):
+                exchange.answered_by, exchange = part, None
         else:
             part.shows = above
+            exchange = part if not above and ANSWERED.match(part.text()) else exchange
     return [it for it in found if it]
+
+
+def is_exchange(part, stream):
+    """Whether a part has the first lines of a stream on its left, and beside them the first replies that were printed.
+
+    Further columns are remarks; further lines of a reply stand below its first.
+    """
+    rows = [re.split(r" {2,}", line) for line in part.text().splitlines()]
+    asked, told = [row[0] for row in rows if row[0]], [row[1] for row in rows if len(row) > 1]
+    return stream.splitlines()[:len(asked)] == asked and part.answered_by.out.splitlines()[:len(told)] == told
 
 
 def is_shown_in(shown, printed):
@@ -168,4 +187,10 @@ def faults_of(page, top, path, lists):
     for it in compared:
         if not any(is_shown_in(it.text(), above.out) for above in it.shows):
             faults.append(f"{it.name()}: this wasn't printed by {it.shows[-1].name()}\n{it.shows[-1].out[-600:]}")
-    return faults, len(chosen), len(compared)
+    exchanges = [it for it in parts if it.answered_by in chosen]
+    for it in exchanges:
+        stream = top / STREAM.search(it.answered_by.lines[-1])[1]
+        if not is_exchange(it, stream.read_text()):
+            faults.append(f"{it.name()}: {it.answered_by.name()} answers other lines, or these in another way\n"
+                          f"{it.answered_by.out[:600]}")
+    return faults, len(chosen), len(compared) + len(exchanges)

@@ -1,5 +1,5 @@
 #!/usr/bin/env python3
-"""Whether what docs/proofs.md, docs/claims.md, docs/map.md and CONTRIBUTING.md name is there, and all links.
+"""Whether what README.md, CONTRIBUTING.md and docs/proofs.md, claims.md and map.md name is there, and all links.
 
     tests/named.py           checks
     tests/named.py --map     writes the drawing of docs/map.md as crates.txt has the layers
@@ -9,10 +9,11 @@ Of proofs.md and claims.md it checks each file of definitions or proofs (`nrm_lp
 function (`nrm_cli::run`, clause `ends`, or clause `ends` of `run`). claims.md must name each file of definitions that a
 public contract reaches. Of the table in proofs.md it checks too that a file has the names that stand behind it. In
 crates.txt no crate may depend on one of a higher layer, the drawing of map.md is compared with its layers, and each
-layer must have a paragraph there that names its crates; crates whose names end in `_tests` alone have tests. Of
-CONTRIBUTING.md each path must be there (`nrm_stream/src/command.rt`, `docs/commands.md`), and each clause that it
-quotes must be a line of the code. Each link of a page must lead to a file and to a heading in it, and to none that a
-release leaves out. What isn't so is printed; the last line is `N names, M not there`.
+layer must have a paragraph there that names its crates; crates whose names end in `_tests` alone have tests. README.md
+must have a line for each layer, from above, and at most 120 lines and 1,100 words. Of CONTRIBUTING.md each path must be
+there (`nrm_stream/src/command.rt`, `docs/commands.md`), and each clause that it quotes must be a line of the code. Each
+link of a page must lead to a file and to a heading in it, and to none that a release leaves out. What isn't so is
+printed; the last line is `N names, M not there`.
 """
 import glob
 import os
@@ -27,6 +28,7 @@ import pages
 TOP = os.path.dirname(os.path.dirname(os.path.realpath(__file__)))
 FILE = r"nrm\w*/(?:specs|proofs)(?:/\w+)+"
 LIST = r"\s*((?:`[\w-]+`(?:,\s+|\s+and\s+)?)+)"
+MOST_LINES, MOST_WORDS = 120, 1100  # of the first page
 NOT_RELEASED = re.compile(r"\]\(((?:\.\./)?(?:crates|tests|tools|\.ci|python/tests)/[^)]*)\)")
 
 
@@ -192,6 +194,16 @@ def look_in_map(document, names):
             names.look(document, f"{crate} in the paragraph of its layer, {layer}", crate in named)
 
 
+def look_at_first_page(document, names):
+    """Whether the first page is short, and draws the layers as crates.txt has them, the highest first."""
+    text = read(document)
+    names.look(document, f"a page of {MOST_LINES} lines and {MOST_WORDS} words at most: {len(text.splitlines())} lines, "
+               f"{len(text.split())} words", len(text.splitlines()) <= MOST_LINES and len(text.split()) <= MOST_WORDS)
+    layers = list(reversed(listed_layers()))
+    names.look(document, "a line for each layer of crates.txt, the highest first",
+               "\n".join(layers) in "\n".join(re.findall(r"^ {4}(\S+(?: \S+)*) {2,}", text, re.M)))
+
+
 def look_for_tests(document, names):
     """Whether tests are in crates of their own alone, as a document says."""
     for crate in listed_crates():
@@ -238,6 +250,7 @@ def main():
     look_at_layers("crates.txt", names)
     look_in_map("docs/map.md", names)
     look_for_tests("docs/map.md", names)
+    look_at_first_page("README.md", names)
     look_for_paths("CONTRIBUTING.md", names)
     look_for_clauses("CONTRIBUTING.md", names)
     look_at_links(names)

@@ -29,7 +29,6 @@ SERVERS = "it is of a server, whose tests run it"
 MINUTES = "it needs Dask, and may take a minute and more"
 THREE_MACHINES = "it is of three machines, for which the tests of the fleet have others"
 NOT_RUN = {  # by the beginning of the commands; the reason
-    ".ci/run": "it is this gate",
     "nrm plan bid network.csv > plan.new": USERS_OWN, "nrm print network.csv > canonical.new": USERS_OWN,
     "nrm print old.csv > new.part": USERS_OWN, "sender |": USERS_OWN, "head -c 123 replies": USERS_OWN,
     "nrm-tools resume network.csv": USERS_OWN, "awk '/^ok /": USERS_OWN,
