@@ -197,8 +197,9 @@ def look_in_map(document, names):
 def look_at_first_page(document, names):
     """Whether the first page is short, and draws the layers as crates.txt has them, the highest first."""
     text = read(document)
-    names.look(document, f"a page of {MOST_LINES} lines and {MOST_WORDS} words at most: {len(text.splitlines())} lines, "
-               f"{len(text.split())} words", len(text.splitlines()) <= MOST_LINES and len(text.split()) <= MOST_WORDS)
+    lines, words = len(text.splitlines()), len(text.split())
+    names.look(document, f"a page of {MOST_LINES} lines and {MOST_WORDS} words at most: {lines} lines, {words} words",
+               lines <= MOST_LINES and words <= MOST_WORDS)
     layers = list(reversed(listed_layers()))
     names.look(document, "a line for each layer of crates.txt, the highest first",
                "\n".join(layers) in "\n".join(re.findall(r"^ {4}(\S+(?: \S+)*) {2,}", text, re.M)))
