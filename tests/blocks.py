@@ -54,6 +54,11 @@ class Part:
         return first in COMMANDS or ASSIGNED.match(first) is not None
 
 
+def name_of(path):
+    """A page's path from the top, of the repository or of a release."""
+    return "/".join(path.parts[path.parts.index("docs"):]) if "docs" in path.parts else path.name
+
+
 def parts_of(path):
     """The parts of a page, in their order."""
     found, above, lines, is_block, part = [], [], [*path.read_text().splitlines(), ""], False, None
@@ -62,7 +67,7 @@ def parts_of(path):
         if is_indented and (is_block or not lines[at - 2].strip()):
             is_block = True
             if part is None:
-                part = Part(path.name, at, [])
+                part = Part(name_of(path), at, [])
                 found.append(part)
             part.lines.append(line)
             continue

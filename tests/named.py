@@ -1,8 +1,8 @@
 #!/usr/bin/env python3
-"""Whether what README.md, CONTRIBUTING.md and docs/proofs.md, claims.md and map.md name is there, and all links.
+"""Whether what README.md, CONTRIBUTING.md, the proofs, the claims and the map name is there, and all links.
 
     tests/named.py           checks
-    tests/named.py --map     writes the drawing of docs/map.md as crates.txt has the layers
+    tests/named.py --map     writes the drawing of docs/developer/map.md as crates.txt has the layers
 
 Of proofs.md and claims.md it checks each file of definitions or proofs (`nrm_lp/specs/Ends`, or in a list
 `nrm_lp/specs`: `Ends`, `Laws`), each public function (`nrm_lp::weakly_dual`), and each clause that is named with a
@@ -12,8 +12,9 @@ crates.txt no crate may depend on one of a higher layer, the drawing of map.md i
 layer must have a paragraph there that names its crates; crates whose names end in `_tests` alone have tests. README.md
 must have a line for each layer, from above, and at most 120 lines and 1,100 words. Of CONTRIBUTING.md each path must be
 there (`nrm_stream/src/command.rt`, `docs/commands.md`), and each clause that it quotes must be a line of the code. Each
-link of a page must lead to a file and to a heading in it, and to none that a release leaves out. What isn't so is
-printed; the last line is `N names, M not there`.
+link of a page must lead to a file and to a heading in it, and to none that a release leaves out. Each page must
+be on a shelf, a folder of docs/ for one kind of reader, or with the rules in docs/ itself, and README.md beside it
+must lead to it. What isn't so is printed; the last line is `N names, M not there`.
 """
 import glob
 import os
@@ -29,7 +30,8 @@ TOP = os.path.dirname(os.path.dirname(os.path.realpath(__file__)))
 FILE = r"nrm\w*/(?:specs|proofs)(?:/\w+)+"
 LIST = r"\s*((?:`[\w-]+`(?:,\s+|\s+and\s+)?)+)"
 MOST_LINES, MOST_WORDS = 120, 1100  # of the first page
-NOT_RELEASED = re.compile(r"\]\(((?:\.\./)?(?:crates|tests|tools|\.ci|python/tests)/[^)]*)\)")
+SHELVES = ("analyst", "operator", "auditor", "developer")
+NOT_RELEASED = re.compile(r"\]\(((?:\.\./)*(?:crates|tests|tools|\.ci|python/tests)/[^)]*)\)")
 
 
 def read(path):
@@ -205,6 +207,20 @@ def look_at_first_page(document, names):
                "\n".join(layers) in "\n".join(re.findall(r"^ {4}(\S+(?: \S+)*) {2,}", text, re.M)))
 
 
+def look_at_shelves(names):
+    """Whether each page below docs/ is on a shelf or with the rules, and the first page there leads to it."""
+    docs = Path(TOP, "docs")
+    first = {docs / shelf / "README.md" for shelf in ("", *SHELVES)}
+    for page in sorted({*docs.rglob("*.md"), *first}):
+        shown = page.relative_to(TOP).as_posix()
+        names.look(shown, "its folder among the shelves", page.parent / "README.md" in first)
+        names.look(shown, "the page", page.exists())
+        above = (docs if page in first else page.parent) / "README.md"
+        link = page.relative_to(above.parent).as_posix()
+        if above.exists() and above != page:
+            names.look(above.relative_to(TOP).as_posix(), f"a link to {link}", f"]({link}" in above.read_text())
+
+
 def look_for_tests(document, names):
     """Whether tests are in crates of their own alone, as a document says."""
     for crate in listed_crates():
@@ -235,25 +251,27 @@ def look_at_links(names):
     names.count += links
     names.missing += faults
     for page in linked:
-        if page.name != "README.md":  # what it says of the checkout is cut from it
-            names.missing += [f"{page.name}: a release has no {link}" for link in NOT_RELEASED.findall(page.read_text())]
+        if page != Path(TOP, "README.md"):  # what it says of the checkout is cut from it
+            names.missing += [f"{page.relative_to(TOP)}: a release has no {link}"
+                              for link in NOT_RELEASED.findall(page.read_text())]
 
 
 def main():
     if sys.argv[1:] == ["--map"]:
-        Path(TOP, "docs", "map.md").write_text(drawn(read("docs/map.md")), encoding="utf-8")
+        Path(TOP, "docs", "developer", "map.md").write_text(drawn(read("docs/developer/map.md")), encoding="utf-8")
         return 0
     names = Names()
-    for document in ("docs/proofs.md", "docs/claims.md"):
+    for document in ("docs/auditor/proofs.md", "docs/auditor/claims.md"):
         look_everywhere(document, names)
-    look_for_definitions("docs/claims.md", names)
-    look_in_table("docs/proofs.md", names)
+    look_for_definitions("docs/auditor/claims.md", names)
+    look_in_table("docs/auditor/proofs.md", names)
     look_at_layers("crates.txt", names)
-    look_in_map("docs/map.md", names)
-    look_for_tests("docs/map.md", names)
+    look_in_map("docs/developer/map.md", names)
+    look_for_tests("docs/developer/map.md", names)
     look_at_first_page("README.md", names)
     look_for_paths("CONTRIBUTING.md", names)
     look_for_clauses("CONTRIBUTING.md", names)
+    look_at_shelves(names)
     look_at_links(names)
     print(*names.missing, sep="\n", end="\n" if names.missing else "")
     print(f"{names.count} names, {len(names.missing)} not there")

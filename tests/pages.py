@@ -3,7 +3,7 @@
 
     tests/pages.py [PATTERN] [--program WORD...]
 
-The pages are README.md and those of docs/, of which PATTERN picks those with it in their name. The commands of each run
+The pages are README.md and those below docs/; PATTERN picks those with it in their path. The commands of each run
 in a copy of what is committed or added, in their order, with the program that is tested in the place of the built one.
 What isn't run or compared is listed below, each with the reason. With no --program it is the script `nrm` at the top of
 the repository; the script `nrm_kept` is always that at the top, and so are `nrm_why` and `nrm_desks`, where the words
@@ -23,7 +23,7 @@ import blocks
 import checks
 
 TOP = Path(__file__).resolve().parent.parent
-PAGES = [TOP / "README.md", *sorted((TOP / "docs").glob("*.md"))]
+PAGES = [TOP / "README.md", *sorted((TOP / "docs").rglob("*.md"))]
 USERS_OWN = "it is of files that the user has"
 SERVERS = "it is of a server, whose tests run it"
 MINUTES = "it needs Dask, and may take a minute and more"
@@ -68,7 +68,7 @@ def faulty_links(pages):
             file, _, heading = link.partition("#")
             linked = path.parent / file if file else path
             if not linked.exists() or heading and heading not in headings_of(linked):
-                faults.append(f"{path.name}: there is no {link}")
+                faults.append(f"{blocks.name_of(path)}: there is no {link}")
             links += 1
     return faults, links
 
@@ -122,7 +122,7 @@ def page_tried(path, program):
 
 def main():
     given = checks.words_of(__doc__)
-    pages = [it for it in PAGES if given.pattern in it.name]
+    pages = [it for it in PAGES if given.pattern in blocks.name_of(it)]
     if not checks.is_built(given.program):
         checks.ended(0, len(pages))
         return checks.NOT_BUILT
@@ -143,7 +143,7 @@ def main():
     with concurrent.futures.ThreadPoolExecutor(4) as pool:
         tried = pool.map(lambda it: page_tried(it, given.program), pages)
         for path, (wrong, ran, compared) in zip(pages, tried):
-            print(f"{path.name}: commands run {ran}, compared with what is shown {compared}", flush=True)
+            print(f"{blocks.name_of(path)}: commands run {ran}, compared with what is shown {compared}", flush=True)
             faults += wrong
             failed += bool(wrong)
     for it in faults:

@@ -86,7 +86,8 @@ def has_what_one_begins_with(release):
     wanted = {"nrm", "nrm_kept", "nrm_why", "nrm_desks", "nrm-tools", "README.md", "CHANGELOG.md", "LICENSE", "VERSION",
               "SHA256SUMS",
               "docs/nrm.1", "docs/nrm_kept.1", "docs/nrm_why.1", "docs/nrm_desks.1",
-              "docs/analyst.md", "docs/operating.md", "docs/auditor.md", "examples/log/network.csv",
+              "docs/analyst/README.md", "docs/operator/operating.md", "docs/auditor/auditor.md",
+              "examples/log/network.csv",
               "python/src/nrm/audit.py", "python/src/nrm/telling/static/page.html",
               "bench/misses.py", "bench/nrm/__init__.py", "tests/databases.py"}
     want(wanted - files, set(), "files")
@@ -137,7 +138,7 @@ def its_wheel_is_installed_in_an_environment_of_its_own(release):
 
 @test
 def its_links_lead_somewhere(release):
-    faults, links = pages.faulty_links([*release.made.glob("*.md"), *(release.made / "docs").glob("*.md")])
+    faults, links = pages.faulty_links([*release.made.glob("*.md"), *(release.made / "docs").rglob("*.md")])
     want((faults, links > 100), ([], True), "links")
 
 
@@ -145,7 +146,7 @@ def its_links_lead_somewhere(release):
 def its_commands_run_as_they_are_written(release):
     """With no folder on the path but its own and the system's, and in a copy of it."""
     faults, lacks = [], pages.lacks_a_database()
-    for at, page in enumerate([release.made / "README.md", *sorted((release.made / "docs").glob("*.md"))]):
+    for at, page in enumerate([release.made / "README.md", *sorted((release.made / "docs").rglob("*.md"))]):
         if not any(it.is_run() for it in blocks.parts_of(page)) or lacks and page.name == pages.WITH_DATABASE:
             continue
         copy = release.folder / f"copy-{at}"

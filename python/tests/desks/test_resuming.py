@@ -21,7 +21,7 @@ class Resuming(PlaceTest):
                 self.assertEqual(out, "".join(answers[count:]), f"{mode} from line {count + 1}")
 
     def test_goes_on_with_a_live_sender(self) -> None:
-        """The commands of `docs/operating.md`, after a cut at each of some bytes of the replies."""
+        """The commands of `docs/operator/operating.md`, after a cut at each of some bytes of the replies."""
         hub = EXAMPLES / "hub"
         lines = (hub / "commands.txt").read_bytes().splitlines(keepends=True)
         replies = (hub / "replies.txt").read_bytes()

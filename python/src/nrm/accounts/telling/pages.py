@@ -17,7 +17,7 @@ HOW = ("Each step again, by hand: the numbers are those of the network file, of 
        "plan.")
 COMMANDS = "The same with commands:"
 BELIEVED = "What must be believed:"
-MEANING = "docs/why.md says what each line means."
+MEANING = "docs/auditor/why.md says what each line means."
 
 
 @dataclass(frozen=True)

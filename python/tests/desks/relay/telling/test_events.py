@@ -155,7 +155,7 @@ class Written(unittest.TestCase):
                 and it.args and isinstance(it.args[0], ast.Constant)}
         told |= {f"{name}-{end}" for name in ("desks", "certificate") for end in ("read", "fault")}
         self.assertEqual(told | {"untold"}, set(LEVEL_OF))
-        page = (TOP / "docs" / "serving.md").read_text()
+        page = (TOP / "docs" / "operator" / "serving.md").read_text()
         rows = re.findall(r"^\| `([a-z-]+)` \| (error|warning|info)\b", page, re.MULTILINE)
         self.assertEqual(dict(rows), LEVEL_OF)
 
