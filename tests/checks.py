@@ -8,7 +8,8 @@ import sys
 import tempfile
 
 TOP = os.path.dirname(os.path.dirname(os.path.realpath(__file__)))
-NOT_BUILT = 70  # what the scripts `nrm`, `nrm_kept` and `nrm_why` end with if there is no program to run
+SCRIPTS = "nrm", "nrm_kept", "nrm_why", "nrm_desks"
+NOT_BUILT = 70  # what the scripts at the top end with if there is no program to run
 MOST_SHOWN = 600
 # a ring of 31 legs, of which each product has four: the opening program has a number that is too large after 53 pivots
 TOO_LARGE = ("periods,1,1\n" + "".join(f"leg,A{n},{60 + n * n % 7},50\n" for n in range(31)) + "leg,Z,1,7\n"
@@ -88,12 +89,17 @@ def named(variable, path):
 
 
 def placed(words):
-    """The words of a program, which may run in another folder; if it isn't there the tests end, and that is told."""
+    """The words of a program, which may run in another folder; if it isn't there the tests end, and that is told. In the
+    place of a script at the top, which answers some words itself, it is the program that the script builds if need
+    be."""
     words = [os.path.abspath(it) if os.path.exists(it) else it for it in words]
     if not shutil.which(words[0]):
         sys.exit(f"{os.path.basename(sys.argv[0])}: {words[0]} isn't a program that can be run; the scripts at the top "
                  "prove and build theirs, as `./nrm --build`")
-    return words
+    name = os.path.basename(words[0])
+    program = os.path.join(TOP, "crates", name, "out", name)
+    is_script = words[0] == os.path.join(TOP, name) and name in SCRIPTS
+    return [program, *words[1:]] if is_script and is_built([words[0], "--build"]) else words
 
 
 def is_built(program):

@@ -140,6 +140,27 @@ def answers_without_a_proof(door):
 
 
 @test
+def says_what_it_is_and_which(door):
+    """For each program, by its manual, without a program and without `rt`."""
+    shutil.copy(os.path.join(checks.TOP, "VERSION"), door.folder)
+    os.mkdir(door.at("docs"))
+    for name, usage in (("nrm", "nrm cuts FILE LEG GROUPS"), ("nrm_kept", "nrm_kept MODE FILE STORE"),
+                        ("nrm_why", "nrm_why MODE FILE NUMBER"), ("nrm_desks", "nrm_desks MODE FILE")):
+        shutil.copy(os.path.join(checks.TOP, "docs", f"{name}.1"), door.at("docs"))
+        os.environ["NRM_DOOR"] = name
+        try:
+            status, out, told = door.run("--help")
+            want((status, told), (0, ""), name)
+            want_in(out, f"{name}: ")
+            want_in(out, f"\n    {usage}\n")
+            with open(os.path.join(checks.TOP, "VERSION")) as file:
+                want(door.run("--version"), (0, f"{name} {file.read().strip()}\n", ""), name)
+        finally:
+            del os.environ["NRM_DOOR"]
+    want(door.called(), [])
+
+
+@test
 def passes_the_status_on(door):
     want(door.run("print", "net.csv", status=3)[:2], (3, "tried\n"))
     want(door.called()[0][3:], ["--", "print", "FILE2"])
