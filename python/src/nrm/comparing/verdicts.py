@@ -1,15 +1,15 @@
 """What a run of many seasons says, in sentences that come first: which is best, by how much, and how sure that is.
 
-Each number is in the form that it has in the tables. May use: nrm.comparing.ranking, nrm.comparing.study,
-nrm.sales.joined, nrm.seasons.results.
+Each number is in the form that it has in the tables. May use: nrm.comparing.joined, nrm.comparing.ranking,
+nrm.comparing.study, nrm.seasons.results.
 """
 from __future__ import annotations
 
 from typing import Iterator, Sequence
 
+from nrm.comparing.joined import said_of_joined, wanted_in_histories
 from nrm.comparing.ranking import Ranking
 from nrm.comparing.study import Study
-from nrm.sales.joined import said_of_joined, wanted_in_histories
 from nrm.seasons.results import Estimate, Results, amount, per_cent
 
 MOST_NAMED = 6

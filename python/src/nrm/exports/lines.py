@@ -1,6 +1,6 @@
 """The stops of each train in their order, as the journeys on it show it, and the legs between neighbouring stops.
 
-May use: nrm, nrm.exports.bookings, nrm.logs.names, nrm.logs.rows.
+May use: nrm, nrm.comparing.joined, nrm.exports.bookings, nrm.logs.rows.
 """
 from __future__ import annotations
 
@@ -9,8 +9,8 @@ from dataclasses import dataclass
 from typing import Iterable, Iterator, Mapping, Sequence
 
 from nrm import Stop
+from nrm.comparing.joined import JOINED_AT
 from nrm.exports.bookings import Booking
-from nrm.logs.names import JOINED_AT
 from nrm.logs.rows import some_of
 
 

@@ -1,7 +1,7 @@
 """What is sold, as an export shows it: the legs with their seats, and the products with their mean fares and legs.
 
-May use: nrm, nrm.exports.bookings, nrm.exports.codes, nrm.exports.lines, nrm.files.names, nrm.limits, nrm.logs.names,
-nrm.logs.rows, nrm.network.
+May use: nrm, nrm.comparing.joined, nrm.exports.bookings, nrm.exports.codes, nrm.exports.lines, nrm.files.names,
+nrm.limits, nrm.logs.rows, nrm.network.
 """
 from __future__ import annotations
 
@@ -13,12 +13,12 @@ from decimal import ROUND_HALF_UP, Decimal
 from typing import Callable, Iterable, Iterator, Mapping, Sequence
 
 from nrm import Stop, said
+from nrm.comparing.joined import JOINED_AT
 from nrm.exports.bookings import Booking
 from nrm.exports.codes import Names, Parts
 from nrm.exports.lines import Leg, Lines
 from nrm.files.names import fitting, free_name
 from nrm.limits import MOST_FARE, MOST_LEGS, MOST_LEGS_OF_A_PRODUCT, MOST_PRODUCTS, MOST_SEATS
-from nrm.logs.names import JOINED_AT
 from nrm.logs.rows import SEPARATORS, some_of, text_in
 from nrm.network import is_whole
 

@@ -18,7 +18,6 @@ from nrm.logs.rows import text_in
 from nrm.network import NAME
 
 HEADINGS = ["name", "stands for"]
-JOINED_AT = ", joined at "  # behind the text of a leg, and before the stops that it passes
 FORMULA = re.compile(r"'*[=+\-@\t\r]")
 
 

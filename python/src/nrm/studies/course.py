@@ -1,7 +1,7 @@
 """The course of one season in the three modes: a stream with looks put in, what each mode answers, tables and page.
 
 How the replies to the lines put in are told apart is said by the manual of the command `season`.
-May use: nrm, nrm.comparing.heads, nrm.network, nrm.program, nrm.replies, nrm.sales.joined, nrm.seasons.results,
+May use: nrm, nrm.comparing.heads, nrm.comparing.joined, nrm.network, nrm.program, nrm.replies, nrm.seasons.results,
 nrm.telling.page, nrm.telling.tables.
 """
 from __future__ import annotations
@@ -13,10 +13,10 @@ from typing import Iterator, Mapping, Sequence
 
 from nrm import Stop, bytes_in
 from nrm.comparing.heads import Made
+from nrm.comparing.joined import said_of_joined
 from nrm.network import Network, whole
 from nrm.program import Program
 from nrm.replies import MODES, Cancelled, Hindsight, Leg, NoAnswer, NoFare, NoLeg, Plan, Sold, answer_of
-from nrm.sales.joined import said_of_joined
 from nrm.seasons.results import per_cent
 from nrm.telling.page import Page
 from nrm.telling.tables import Cell, Table, with_text
