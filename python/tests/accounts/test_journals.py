@@ -320,7 +320,7 @@ class Networks(JournalTest):
         with using("journal", is_to_write=True) as connection:
             end_network(connection, "hub")
         self.assertRegex(self.page(5), rf"\nhub has ended, at {TIME}\.\n")
-        halt("journal", 1, "row 3 is odd")
+        halt("journal", 1, 1, "row 3 is odd")
         self.want_in(self.page(5), "\nNobody answers for hub, which is halted: row 3 is odd.\n")
         done = self.why(2, "--customer")
         self.assertEqual((done.status, done.out[:13]), (0, "Sold: 1 seat "))
