@@ -49,7 +49,7 @@ split_part(entry, E'\\t', 6) = ''
         # told, or written alone: its lease may be seen to be over between the two
         r"AssertionError: (.*who was stopped tells b'ok|Lists differ: .* != \['D1', 'D2', 'D1'\])"),
     "a look is answered by who has lost the network": Form((
-        (HALL, "if not rows and self.writer.is_still(network.number, network.epoch, session.lines):", "if not rows:"),),
+        (HALL, "if not rows and self.writer.is_still(given):", "if not rows:"),),
         moment("test_owners.Owners.test_nothing_is_told_before_the_fence_is_passed"), UNTOLD),
     "sent again is carried out again": Form((
         (f"{POSTGRES}/tables.py", r"concat_ws(E'\t', number, desk, sequence,",
