@@ -6,11 +6,11 @@ from typing import NamedTuple
 
 from nrm import Stop
 from nrm.commands.running import add_program
-from nrm.logs.demand import cuts_of
 from nrm.network import text_of, whole
 from nrm.program import Dialogue
+from nrm.records.log_demand import cuts_of
+from nrm.records.stream_requests import rows_with
 from nrm.replies import MODES, answer_of
-from nrm.sales.asked import rows_with
 from nrm.seasons.drawing import poisson
 
 KINDS = ("poisson", "factor", "rough")

@@ -30,16 +30,16 @@ from dataclasses import dataclass
 from departures import Board, Clock, Demand, add_departures, counted
 from nrm import Stop
 from nrm.commands.running import parser
-from nrm.estimates.days import estimated
-from nrm.estimates.products import known_of
-from nrm.estimates.results import copies_of, drawn
-from nrm.logs import demand as logs
-from nrm.logs.requests import Request
 from nrm.network import Network, whole
 from nrm.program import Program
-from nrm.sales.closures import END_OF_DEPARTURE, Closure
-from nrm.sales.sale import Calendar
-from nrm.sales.sale import Sale as LoggedSale
+from nrm.records import log_demand as logs
+from nrm.records.closures import END_OF_DEPARTURE, Closure
+from nrm.records.estimate_days import estimated
+from nrm.records.estimate_products import known_of
+from nrm.records.estimate_results import copies_of, drawn
+from nrm.records.log_requests import Request
+from nrm.records.sale import Calendar
+from nrm.records.sale import Sale as LoggedSale
 from running import NAME, end
 from sold import FIRST
 

@@ -32,11 +32,11 @@ from departures import Board, Demand, add_departures, counted
 from loop import OPENS, Estimates, error_of
 from nrm import Stop
 from nrm.commands.running import parser
-from nrm.estimates.results import carried, drawn
 from nrm.limits import MOST_HISTORIES, MOST_PERIODS
 from nrm.network import Network, whole
 from nrm.program import Program
-from nrm.sales.closures import NOON, Reading, closures_between
+from nrm.records.closures import NOON, Reading, closures_between
+from nrm.records.estimate_results import carried, drawn
 from running import NAME, end
 
 MODES = ("bid", "davn")

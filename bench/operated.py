@@ -27,16 +27,16 @@ from typing import NamedTuple
 import networks
 import serve
 from nrm import Stop
-from nrm.desks.access import RIGHTS, add_desk
-from nrm.desks.journals.tables import using
-from nrm.desks.journals.times.said import Times, set_times
-from nrm.telling.libraries import is_there, lacks
+from nrm.journal.network_times import Times, set_times
+from nrm.journal.sqlite_tables import using
+from nrm.libraries import is_there, lacks
+from nrm.server.access import RIGHTS, add_desk
 from running import built, end, words_of
 
 CROWDS = [(1, 1, 3_000, False), (10, 1, 20_000, False), (200, 1, 60_000, False), (1, 100, 60_000, False),
           (10, 1, 20_000, True)]  # clients, lines ahead, lines, and whether they come by a port
 ASK = """import sys, time
-from nrm.desks.status import ask_status
+from nrm.server.status_text import ask_status
 while True:
     ask_status(sys.argv[1], 30, sys.argv[2])
     time.sleep(1)

@@ -31,8 +31,8 @@ from pathlib import Path
 
 import networks
 from nrm import Stop
-from nrm.desks.journals.networks import open_network
-from nrm.desks.journals.tables import begin, using
+from nrm.journal.networks import open_network
+from nrm.journal.sqlite_tables import begin, using
 from nrm.program import Program
 from running import built, end, words_of
 

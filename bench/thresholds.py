@@ -15,10 +15,10 @@ from nrm import Stop, bytes_in
 from nrm.commands.running import add_program, parser
 from nrm.network import Network, text_of, whole
 from nrm.program import Program
-from nrm.searches.thresholds import proposed, rows_of_thresholds
 from nrm.seasons.drawing import Settings
 from nrm.seasons.playing import Player
 from nrm.seasons.results import Estimate
+from nrm.seasons.search_thresholds import proposed, rows_of_thresholds
 from running import NAME, end
 
 

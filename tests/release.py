@@ -88,7 +88,7 @@ def has_what_one_begins_with(release):
               "docs/nrm.1", "docs/nrm_kept.1", "docs/nrm_why.1", "docs/nrm_desks.1",
               "docs/analyst/README.md", "docs/operator/operating.md", "docs/auditor/auditor.md",
               "examples/log/network.csv",
-              "python/src/nrm/audit.py", "python/src/nrm/telling/static/page.html",
+              "python/src/nrm/audit.py", "python/src/nrm/pages/static/page.html",
               "bench/misses.py", "bench/nrm/__init__.py", "tests/databases.py"}
     want(wanted - files, set(), "files")
     want([it for it in files if "__pycache__" in it

@@ -23,8 +23,8 @@ from unittest import mock
 
 from nrm import Stop
 from nrm.__main__ import main
+from nrm.libraries import is_there
 from nrm.program import Program
-from nrm.telling.libraries import is_there
 
 TOP = Path(__file__).resolve().parents[2]
 EXAMPLES, SOURCES = TOP / "examples", TOP / "python" / "src"

@@ -1,18 +1,30 @@
-"""Imports go one way, each file says at its head what it may use, and each folder has few files."""
+"""Which room of the package may use which, and that no import comes back."""
 from __future__ import annotations
 
 import ast
-import re
+import subprocess
+import sys
 import unittest
 from pathlib import Path
+from typing import Iterable
 
 from harness import SOURCES, TOP
 
 PACKAGE = SOURCES / "nrm"
 STANDS_ALONE = "nrm.audit"
-OF_COMMANDS = "nrm.commands."
-SHARED = ("running", "log_words", "export_words", "season_words", "serve_words")  # by commands
-BELOW_COMMANDS = tuple(f"{OF_COMMANDS}{it}" for it in SHARED)
+MAY_USE = {  # a room may use itself and, but for the last two lines, the modules that stand in no room
+    "pages": "",
+    "legs": "pages",
+    "seasons": "legs pages",
+    "records": "legs seasons",
+    "journal": "",
+    "accounts": "journal pages",
+    "server": "journal",
+    "web": "journal pages server",
+    "commands": "accounts journal legs pages records seasons server web",
+    "": "",  # no room: `desk`, `network`, `program`, `replies` and others, which all rooms may use
+    "__main__": "commands",
+}
 
 
 def name_of(path: Path) -> str:
@@ -23,10 +35,28 @@ def name_of(path: Path) -> str:
 MODULES = {name_of(it): it for it in PACKAGE.rglob("*.py")}
 
 
-def imports_of(name: str) -> set[str]:
-    """The modules of the package that a module imports, at its head or within a function."""
+def room_of(name: str) -> str:
+    """The room in which a module stands; the command line is none, and nobody may use it."""
+    _, _, below = name.partition(".")
+    return below.partition(".")[0] if (PACKAGE / below.partition(".")[0]).is_dir() or below == "__main__" else ""
+
+
+def is_for_types(node: ast.AST) -> bool:
+    """Whether a part of a module is there for mypy alone."""
+    return isinstance(node, ast.If) and isinstance(node.test, ast.Name) and node.test.id == "TYPE_CHECKING"
+
+
+def parts_of(node: ast.AST) -> Iterable[ast.AST]:
+    """All of a module that is run."""
+    for it in node.orelse if isinstance(node, ast.If) and is_for_types(node) else ast.iter_child_nodes(node):
+        yield it
+        yield from parts_of(it)
+
+
+def imports_in(text: str) -> set[str]:
+    """The modules of the package that a text imports, at its head or within a function."""
     found: set[str] = set()
-    for node in ast.walk(ast.parse(MODULES[name].read_text())):
+    for node in parts_of(ast.parse(text)):
         if isinstance(node, ast.Import):
             found |= {it.name for it in node.names}
         elif isinstance(node, ast.ImportFrom) and node.module:
@@ -35,55 +65,53 @@ def imports_of(name: str) -> set[str]:
     return found & MODULES.keys()
 
 
-GRAPH = {name: imports_of(name) for name in MODULES}
+GRAPH = {name: imports_in(path.read_text()) for name, path in MODULES.items()}
 
 
-def ring_from(name: str, way: tuple[str, ...] = ()) -> tuple[str, ...]:
-    """A way of imports that comes back to where it was; empty if there is none."""
-    if name in way:
-        return (*way[way.index(name):], name)
-    for it in sorted(GRAPH[name]):
-        if found := ring_from(it, (*way, name)):
-            return found
-    return ()
+def ring_in(graph: dict[str, set[str]]) -> list[str]:
+    """A way of uses that comes back to where it was; empty if there is none."""
+    left = {name: used - {name} for name, used in graph.items()}
+    while free := [name for name, used in left.items() if not used & left.keys()]:
+        for name in free:
+            del left[name]
+    way = [*left][:1]
+    while way and way[-1] not in way[:-1]:
+        way.append(min(left[way[-1]] & left.keys()))
+    return way[way.index(way[-1]):] if way else []
 
 
-def head_of(name: str) -> str:
-    """What a file says of itself at its head."""
-    return ast.get_docstring(ast.parse(MODULES[name].read_text())) or ""
+def refused_in(graph: dict[str, set[str]]) -> list[str]:
+    """The imports that the table doesn't allow."""
+    return [f"{name} uses {it}" for name, used in sorted(graph.items()) for it in sorted(used)
+            if room_of(it) not in {room_of(name), "", *MAY_USE[room_of(name)].split()}]
 
 
 class Imports(unittest.TestCase):
+    def test_each_room_uses_what_it_may(self) -> None:
+        self.assertEqual({room_of(it) for it in MODULES}, MAY_USE.keys())
+        self.assertEqual(refused_in(GRAPH), [])
+        self.assertEqual(refused_in({"nrm.journal.looking": {"nrm.server.clock"}, "nrm.program": {"nrm.web.routes"}}),
+                         ["nrm.journal.looking uses nrm.server.clock", "nrm.program uses nrm.web.routes"])
+
     def test_no_import_comes_back(self) -> None:
         self.assertGreaterEqual(sum(map(len, GRAPH.values())), 60, "the graph is drawn")
-        for name in GRAPH:
-            self.assertEqual(ring_from(name), (), name)
+        self.assertEqual(ring_in(GRAPH), [])
+        self.assertEqual(ring_in({room: {*used.split()} for room, used in MAY_USE.items()}), [])
+        self.assertEqual(ring_in({"a": {"b", "d"}, "b": {"c"}, "c": {"b"}, "d": set()}), ["b", "c", "b"])
 
     def test_the_auditors_file_shares_nothing(self) -> None:
         self.assertEqual(GRAPH[STANDS_ALONE], set())
         self.assertEqual([name for name, used in GRAPH.items() if STANDS_ALONE in used], [])
 
-    def test_no_room_uses_a_command(self) -> None:
-        for name, used in GRAPH.items():
-            below = {it for it in used if it.startswith(OF_COMMANDS) and it not in BELOW_COMMANDS}
-            self.assertEqual(below, set(), name)
+    def test_a_desk_is_in_the_package_and_is_read_when_it_is_named(self) -> None:
+        text = "import sys, nrm; print('nrm.desk' in sys.modules); from nrm import Desk; print(Desk.__module__)"
+        told = subprocess.check_output([sys.executable, "-c", text], cwd=SOURCES, text=True)
+        self.assertEqual(told, "False\nnrm.desk\n")
 
-    def test_each_file_uses_what_its_head_says(self) -> None:
-        """But for commands, whose head is the manual, and which may use all but the auditor's."""
-        for name, used in GRAPH.items():
-            head = " ".join(head_of(name).split())
-            if name.startswith(OF_COMMANDS) and name not in BELOW_COMMANDS:
-                self.assertTrue(head, name)
-            elif name not in (STANDS_ALONE, "nrm.commands"):
-                said = re.search(r"May use: ([^;]*)\.(?:$| )", head)
-                self.assertIsNotNone(said, f"{name} doesn't say what it may use")
-                wanted = set() if said[1] == "nothing" else set(said[1].split(", "))
-                self.assertEqual(used, wanted, name)
-
-    def test_each_folder_has_three_to_seven_files(self) -> None:
-        for folder in {it.parent for it in MODULES.values()}:
-            files = [it for it in folder.iterdir() if it.is_file() and it.name != "py.typed"]
-            self.assertTrue(2 <= len(files) <= 7, f"{folder}: {len(files)} files")
+    def test_each_file_stands_in_a_room(self) -> None:
+        self.assertEqual([str(it) for it in MODULES.values() if len(it.relative_to(PACKAGE).parts) > 2], [])
+        tests = TOP / "python" / "tests"
+        self.assertEqual([str(it) for it in tests.rglob("*.py") if len(it.relative_to(tests).parts) > 2], [])
 
     def test_nobody_writes_the_path_of_imports(self) -> None:
         for path in (TOP / "python").rglob("*.py"):

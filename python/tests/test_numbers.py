@@ -5,10 +5,10 @@ import unittest
 from fractions import Fraction
 from typing import Callable
 
-from files.test_solvers import WITH_THIRDS, WRITTEN_BY_ESOLVER, WRITTEN_BY_GLPSOL
 from harness import PlaceTest, WithinTest
 from made import FEW
 from nrm.network import MOST_DIGITS, fraction, is_whole, number, whole
+from records.test_solver_files import WITH_THIRDS, WRITTEN_BY_ESOLVER, WRITTEN_BY_GLPSOL
 
 LONG = ["9" * 4300, "9" * 4301, "1" + "0" * 20_000]  # Python makes no number of more than 4,300 digits
 OF_EACH_ROW = "periods,1,1,2\nleg,A,1,1,7\nproduct,P,5,A\nrefund,P,50\ndemand,P,1,1\n"

@@ -1,12 +1,24 @@
 """The tools beside `nrm`: network files read and explained, seasons played and shown, many desks at one controller.
 
 Holds the version, `Stop`, the one error of a user's mistake, what is said of a name, and how a file is read and a
-folder made so that a fault is one. May use: nothing.
+folder made so that a fault is one. `Desk`, by which a program of one's own asks a server for seats, is that of
+`nrm.desk`.
 """
 from __future__ import annotations
 
+import importlib
 import os
 import unicodedata
+from typing import TYPE_CHECKING
+
+if TYPE_CHECKING:
+    from nrm.desk import Desk as Desk
+else:
+    def __getattr__(name: str) -> object:
+        """`Desk`, which is read when it is named, since no command needs it."""
+        if name != "Desk":
+            raise AttributeError(f"module {__name__!r} has no attribute {name!r}")
+        return importlib.import_module("nrm.desk").Desk
 
 __version__ = "v2.1.0"
 UNSEEN = ("Cc", "Cf", "Cs", "Zl", "Zp")  # kinds of characters in Unicode

@@ -1,6 +1,6 @@
 """The command line: which command it names, all commands with a line each, and the version.
 
-A command's file is imported when it is named. May use: nrm, nrm.commands, nrm.commands.running, nrm.program.
+A command's file is imported when it is named.
 """
 from __future__ import annotations
 

@@ -1,6 +1,6 @@
 """The limits of networks, of what is asked of one and of the files about it, as the program has them.
 
-A test compares each with the constant of the same name in the crates. May use: nothing.
+A test compares each with the constant of the same name in the crates.
 """
 from __future__ import annotations
 

@@ -1,8 +1,8 @@
 """The network file of both versions: its rows with their lines, the network that they make, and rows as text.
 
 It sees what a network needs to be one. That a file is within all its limits is for `nrm print` to say, and what is
-wrong with it for `nrm.files.explained`. Numbers are refused by their length first, since Python makes none of more than
-4,300 digits, and fails at one. May use: nrm, nrm.limits.
+wrong with it for `nrm.records.network_faults`. Numbers are refused by their length first, since Python makes none of
+more than 4,300 digits, and fails at one.
 """
 from __future__ import annotations
 

@@ -1,7 +1,6 @@
 """The program `nrm`, and `nrm_desks`: how it is found and run, as a whole run, a dialogue or a stream. None is built.
 
 A run that ends with another status than 0 is a `Stop` that tells the status and the last line that was written.
-May use: nrm, nrm.replies.
 """
 from __future__ import annotations
 

@@ -1,6 +1,6 @@
 """What the program writes, read: replies, plans, texts of legs, bounds, and the lines of `cuts` and `dp`.
 
-Each is read here and nowhere else, into values with exact fractions. May use: nrm.network.
+Each is read here and nowhere else, into values with exact fractions.
 """
 from __future__ import annotations
 

@@ -16,11 +16,11 @@ import unittest
 from pathlib import Path
 from typing import Sequence
 
-from accounts.test_why import BID, NEST_LINES, NESTS, REFERENCE
+from accounts.test_why import BID, NESTS, NEST_LINES, REFERENCE
 from harness import SOURCES, Done, WithinTest, needs
-from nrm.desks.journals.networks import end_network, open_network
-from nrm.desks.journals.tables import begin, using
-from nrm.desks.journals.writing import Given, Writer, halt
+from nrm.journal.networks import end_network, open_network
+from nrm.journal.sqlite_tables import begin, using
+from nrm.journal.sqlite_writing import Given, Writer, halt
 from nrm.program import Program
 
 LINES = ["book THRU 1", "book LOW 1", "book LOC 1", "reoptimise 2", "book THRU 1", "cancel 1", "book LOW 999",

@@ -10,11 +10,11 @@ import sys
 import time
 
 from harness import EXAMPLES, SECONDS, SOURCES, TOP, PlaceTest
-from logs.made_log import COLUMNS
 from made import FEW
 from nrm import __version__
 from nrm.commands import NAMED
 from nrm.seasons.drawing import Settings
+from records.made_log import COLUMNS
 from seasons.clusters import by_one_process, needs_dask
 
 NETWORK = str(EXAMPLES / "log" / "network.csv")

@@ -5,9 +5,9 @@ import os
 from unittest import mock
 
 from harness import EXAMPLES, SOURCES, WithinTest
-from logs.made_log import COLUMNS
 from nrm.__main__ import main
-from nrm.telling.libraries import DEBIANS_PYTHON
+from nrm.libraries import DEBIANS_PYTHON
+from records.made_log import COLUMNS
 
 AUTHORISE = ["authorise", "n.csv", "--show", "0.9", "--denied-cost", "5"]
 LOG = ["log", "l.csv", *COLUMNS, "--cuts", "7"]

@@ -1,2 +1,1 @@
-"""Tests of a fleet: several servers of one journal in PostgreSQL. They need Debian's `postgresql` and
-`python3-psycopg`, and are skipped where one of them isn't there."""
+"""Tests of several servers that share a journal in PostgreSQL, one after the other."""

@@ -16,9 +16,9 @@ from pathlib import Path
 from typing import Any, Iterable, Iterator
 
 from databases import LOOPBACK, WANTING, Databases, free_ports, is_there  # of the folder tests at the top
-from desks.relay.serves import ONE, PATIENT, Server
 from harness import SOURCES, PlaceTest, needs, program, wait_for
 from nrm.program import Program
+from server.serves import ONE, PATIENT, Server
 
 LEASE = 3.0  # seconds after which a server that tells nothing is taken for gone
 NEW = 5.0  # seconds for which a server that has begun takes nothing from others

@@ -7,9 +7,9 @@ import subprocess
 import sys
 from unittest import mock
 
-from desks.relay.serves import Server
 from fleet.standing import Fleet, FleetTest, asked
 from harness import SOURCES, needs, wait_for
+from server.serves import Server
 from web.webs import Running, WebTest
 
 SECRET = "hush"

@@ -1,1 +1,1 @@
-"""Tests of what an operating system has to do with the servers: its manager of services, and its unit files."""
+"""Tests of units, and of what a manager of services is told."""

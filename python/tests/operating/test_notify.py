@@ -7,8 +7,8 @@ from types import SimpleNamespace
 from unittest import mock
 
 from harness import PlaceTest
-from nrm.desks.notify import Manager
-from nrm.web.running import Signs
+from nrm.server.notify import Manager
+from nrm.web.web_run import Signs
 from operating.managers import FakeManager
 
 
@@ -69,7 +69,7 @@ class Notify(PlaceTest):
         told: list[str] = []
         web = SimpleNamespace(following=SimpleNamespace(turns=0, networks={"one": 1}))
         now = [100.0]
-        with mock.patch("nrm.web.running.time.monotonic", lambda: now[0]):
+        with mock.patch("nrm.web.web_run.time.monotonic", lambda: now[0]):
             signs = Signs(SimpleNamespace(works=told.append), web)  # type: ignore[arg-type]
             for turns, seconds, wanted in ((0, 5, 0), (1, 0.1, 1), (2, 0.5, 0), (2, 0.6, 1), (2, 9, 0), (3, 1, 1)):
                 web.following.turns = turns

@@ -8,13 +8,13 @@ import select
 import subprocess
 import time
 
-from desks.relay.serves import ONE, Serve, ServeTest, talk
-from desks.servers import answers
 from harness import SECONDS
-from nrm.desks.journals.networks import open_network
-from nrm.desks.journals.tables import begin, using
+from nrm.journal.networks import open_network
+from nrm.journal.sqlite_tables import begin, using
 from nrm.program import Program
 from operating.managers import HANGS, LISTENS_LATE, FakeManager, see_signs
+from server.servers import answers
+from server.serves import ONE, Serve, ServeTest, talk
 
 
 class Managed(ServeTest):

@@ -1,1 +1,1 @@
-"""What trials of servers share: desks that ask, what must hold after, rounds, and mistakes that are to be found."""
+"""What trials of servers share: desks that ask, what must hold after, rounds, and mistakes to be found."""

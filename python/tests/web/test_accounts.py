@@ -8,8 +8,8 @@ import time
 from pathlib import Path
 from unittest import mock
 
-from desks.relay.serves import ONE
 from harness import needs, wait_for
+from server.serves import ONE
 from web.webs import WebTest, passed
 
 LINE = "/networks/hub/lines/2"

@@ -11,8 +11,8 @@ import unittest
 from pathlib import Path
 from typing import Any
 
-from desks.relay.serves import ONE
 from harness import needs, wait_for
+from server.serves import ONE
 from web.webs import Running, WebTest, until_read
 
 LINES = "/networks/hub/desks/COUNTER-7/lines"

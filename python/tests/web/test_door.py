@@ -5,11 +5,11 @@ import signal
 import time
 from typing import Callable
 
-from desks.relay.serves import rows_in, talk
 from harness import meanwhile, wait_for
-from nrm.desks.access import add_desk
-from nrm.desks.desk import Desk
-from nrm.web.door.callers import Callers
+from nrm.desk import Desk
+from nrm.server.access import add_desk
+from nrm.web.callers import Callers
+from server.serves import rows_in, talk
 from web.webs import WebTest
 
 JSON = {"Accept": "application/json"}

@@ -7,15 +7,15 @@ import threading
 from collections import Counter
 from pathlib import Path
 
-from desks.relay.serves import ONE
-from desks.servers import HUB
 from made import SECOND
-from nrm.desks.journals.looking import copy
-from nrm.desks.journals.tables import using
+from nrm.journal.looking import copy
+from nrm.journal.sqlite_tables import using
 from nrm.network import Network, rows_of
 from nrm.replies import Hindsight, Leg, answer_of, replies_of
-from nrm.web.following.counts import Counts, Row
-from nrm.web.following.journal import Following
+from nrm.web.followed_journal import Following
+from nrm.web.network_counts import Counts, Row
+from server.servers import HUB
+from server.serves import ONE
 from web.webs import WebTest
 
 KINDS = {"ok": "sold", "cancelled": "cancelled", "optimised": "optimised", "unknown": "unknown", "overflow": "overflow"}

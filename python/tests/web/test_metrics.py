@@ -7,11 +7,11 @@ import socket
 import subprocess
 from typing import Mapping
 
-from desks.relay.serves import ONE
 from harness import TOP, needs, wait_for
-from nrm.desks.journals.tables import using
-from nrm.desks.status import Status, status_of
-from nrm.web.asking.status import Asked
+from nrm.journal.sqlite_tables import using
+from nrm.server.status_text import Status, status_of
+from nrm.web.recent_status import Asked
+from server.serves import ONE
 from web.webs import STATUS, WebTest, until_read
 
 ALERTS = TOP / "examples" / "operating" / "alerts.yml"

@@ -9,10 +9,10 @@ from fractions import Fraction
 from html.parser import HTMLParser
 from typing import Iterator
 
-from desks.relay.serves import ONE, rows_in, talk
 from harness import SECONDS, needs, wait_for
-from nrm.web.showing.pages import STATIC
-from nrm.web.showing.words import amount, bars, curve, time_of, why
+from nrm.web.html_pages import STATIC
+from nrm.web.page_words import amount, bars, curve, time_of, why
+from server.serves import ONE, rows_in, talk
 from web.webs import Running, WebTest, passed, until_read
 
 MARKUP = "<img src=x onerror=alert(1)>"
@@ -162,7 +162,7 @@ class PagesTest(WebTest):
     @needs("jinja2")
     def test_what_is_in_the_journal_stays_text(self) -> None:
         """A desk, a line and why a network is halted, as somebody may have written them."""
-        from nrm.desks.journals.tables import using
+        from nrm.journal.sqlite_tables import using
         journal = self.journal("one", file=ONE.encode())
         self.write(journal, [(f"book {MARKUP} 1", "unknown")], desk=MARKUP)
         with using(str(journal), is_to_write=True) as connection:

@@ -14,11 +14,11 @@ import time
 from pathlib import Path
 from typing import Sequence
 
-from desks.relay.serves import ONE
 from harness import SECONDS, needs, wait_for
+from nrm.web.http_server import FULL, is_own_name
 from nrm.web.messages import MOST_HEAD
 from nrm.web.routes import DESCRIPTION
-from nrm.web.serving import FULL, is_own_name
+from server.serves import ONE
 from web.webs import WebTest, passed
 
 HOST = b"Host: localhost\r\n"

@@ -12,14 +12,14 @@ from dataclasses import replace
 from pathlib import Path
 from typing import Callable, Iterator, Mapping, NamedTuple, Sequence
 
-from desks import servers
-from desks.relay.serves import ServeTest
 from harness import SECONDS, meanwhile, wait_for
-from nrm.desks.journals.tables import using
-from nrm.desks.journals.writing import Given, Writer
-from nrm.desks.status import Network
+from nrm.journal.sqlite_tables import using
+from nrm.journal.sqlite_writing import Given, Writer
+from nrm.server.status_text import Network
+from nrm.web.http_server import Listening, Site
 from nrm.web.routes import Settings, Web
-from nrm.web.serving import Listening, Site
+from server import servers
+from server.serves import ServeTest
 
 STATUS = replace(servers.STATUS, networks=(Network("hub", "bid", "answers", 4, 812, False, 6),)).text()
 

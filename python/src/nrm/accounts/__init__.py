@@ -1,4 +1,1 @@
-"""Why a line was answered as it was: accounts read, their rule done again, and told in plain words.
-
-May use: nothing.
-"""
+"""Why a line was answered as it was: its account is read, its rule is done again, and a page says both."""

@@ -1,7 +1,4 @@
-"""The account of a line, read: what `nrm_why` writes, as values with exact fractions.
-
-May use: nrm.network, nrm.replies.
-"""
+"""The account of a line, read: what `nrm_why` writes, as values with exact fractions."""
 from __future__ import annotations
 
 import re

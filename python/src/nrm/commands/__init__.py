@@ -1,33 +1,31 @@
 """The commands: a file each, whose head is its manual, and whose `run` takes the words behind the name.
 
 Words in, calls out, a status at the end, and nothing else: what a command does stands in the other rooms, and no room
-uses a command. In `files` are those that run no program, in `studies` those that ask it about the past, in `seasons`
-those that play many to find something, and in `live` those beside a running session. May use: all but audit, which
-stands alone and is begun by its own module.
+uses a command.
 """
 from __future__ import annotations
 
 NAMED = {
-    "asked": "nrm.commands.files.asked",
+    "asked": "nrm.commands.asked",
     "audit": "nrm.audit",
-    "demand": "nrm.commands.files.demand",
-    "explain": "nrm.commands.files.explain",
-    "log": "nrm.commands.files.log",
-    "lp": "nrm.commands.files.lp",
-    "split": "nrm.commands.files.split",
-    "optimum": "nrm.commands.studies.optimum",
-    "replay": "nrm.commands.studies.replay",
-    "season": "nrm.commands.studies.season",
-    "simulate": "nrm.commands.studies.simulate",
-    "thresholds": "nrm.commands.studies.thresholds",
-    "why": "nrm.commands.studies.why",
-    "authorise": "nrm.commands.seasons.authorise",
-    "averaged": "nrm.commands.seasons.averaged",
-    "journal": "nrm.commands.live.journal",
-    "serve": "nrm.commands.live.serve",
-    "status": "nrm.commands.live.status",
-    "token": "nrm.commands.live.token",
-    "resume": "nrm.commands.live.resume",
-    "web": "nrm.commands.live.web",
+    "demand": "nrm.commands.demand",
+    "explain": "nrm.commands.explain",
+    "log": "nrm.commands.log",
+    "lp": "nrm.commands.lp",
+    "split": "nrm.commands.split",
+    "optimum": "nrm.commands.optimum",
+    "replay": "nrm.commands.replay",
+    "season": "nrm.commands.season",
+    "simulate": "nrm.commands.simulate",
+    "thresholds": "nrm.commands.thresholds",
+    "why": "nrm.commands.why",
+    "authorise": "nrm.commands.authorise",
+    "averaged": "nrm.commands.averaged",
+    "journal": "nrm.commands.journal",
+    "serve": "nrm.commands.serve",
+    "status": "nrm.commands.status",
+    "token": "nrm.commands.token",
+    "resume": "nrm.commands.resume",
+    "web": "nrm.commands.web",
 }
 ALONE = ("audit",)  # these begin and end by themselves

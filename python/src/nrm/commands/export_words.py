@@ -1,7 +1,4 @@
-"""The words with which an export is read: beside those of a log, its stops, fares, numbers and cancellations.
-
-May use: nrm, nrm.commands.running, nrm.exports.bookings, nrm.logs.dates, nrm.logs.requests.
-"""
+"""The words with which an export is read: beside those of a log, its stops, fares, numbers and cancellations."""
 from __future__ import annotations
 
 import argparse
@@ -10,9 +7,9 @@ from typing import Callable, Sequence
 
 from nrm import Stop
 from nrm.commands.running import whole_number
-from nrm.exports.bookings import Booking, ExportColumns, bookings_in
-from nrm.logs.dates import WEEKDAYS, Dates
-from nrm.logs.requests import Columns, Request
+from nrm.records.dates import WEEKDAYS, Dates
+from nrm.records.export_bookings import Booking, ExportColumns, bookings_in
+from nrm.records.log_requests import Columns, Request
 
 
 def add_export(words: argparse.ArgumentParser) -> None:

@@ -1,7 +1,4 @@
-"""The words with which a log is read and cut into histories and periods: the same for each command that takes a log.
-
-May use: nrm, nrm.commands.running, nrm.limits, nrm.logs.dates, nrm.logs.demand, nrm.logs.requests.
-"""
+"""The words with which a log is read and cut into histories and periods: the same for each command that takes a log."""
 from __future__ import annotations
 
 import argparse
@@ -10,9 +7,9 @@ from typing import Callable, Iterable, Iterator, Mapping, Sequence
 from nrm import Stop, said
 from nrm.commands.running import whole_number
 from nrm.limits import MOST_HISTORIES, MOST_PRODUCTS
-from nrm.logs.dates import WEEKDAYS
-from nrm.logs.demand import Demand, cuts_of
-from nrm.logs.requests import Columns, Request, requests_in
+from nrm.records.dates import WEEKDAYS
+from nrm.records.log_demand import Demand, cuts_of
+from nrm.records.log_requests import Columns, Request, requests_in
 
 
 def add_log(words: argparse.ArgumentParser) -> None:

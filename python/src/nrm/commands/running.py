@@ -1,7 +1,4 @@
-"""How a command begins and ends: its words, its status, and how a mistake, a closed pipe or Ctrl-C is told.
-
-May use: nrm, nrm.logs.names, nrm.network, nrm.program, nrm.telling.libraries.
-"""
+"""How a command begins and ends: its words, its status, and how a mistake, a closed pipe or Ctrl-C is told."""
 from __future__ import annotations
 
 import argparse
@@ -13,10 +10,10 @@ import sys
 from typing import Callable, NoReturn, Sequence
 
 from nrm import Stop, said
-from nrm.logs.names import texts_in
+from nrm.libraries import DEBIANS_PYTHON, is_debians, is_there, missing
 from nrm.network import number
 from nrm.program import TOP
-from nrm.telling.libraries import DEBIANS_PYTHON, is_debians, is_there, missing
+from nrm.records.name_lists import texts_in
 
 TOOLS = "nrm-tools"
 SOURCES, OF_DEBIAN = TOP / "python" / "src", "/usr/lib/python3/dist-packages"

@@ -1,7 +1,4 @@
 """The words by which commands draw, play and search seasons: what is drawn, where it runs, and Dask, which that takes.
-
-May use: nrm, nrm.commands.running, nrm.network, nrm.program, nrm.searches.trials, nrm.seasons.cluster,
-nrm.seasons.drawing, nrm.telling.libraries.
 """
 from __future__ import annotations
 
@@ -15,13 +12,13 @@ from typing import TYPE_CHECKING, Callable, ContextManager, Sequence
 from nrm import Stop, bytes_in
 from nrm.commands import running
 from nrm.commands.running import refused_word, tell
+from nrm.libraries import lacks
 from nrm.network import MOST_DIGITS, number
 from nrm.program import Program
 from nrm.seasons.drawing import DEMANDS, LARGEST_PARTY, ORDERS, Settings
-from nrm.telling.libraries import lacks
 
 if TYPE_CHECKING:
-    from nrm.searches.trials import Trials  # which needs Dask
+    from nrm.seasons.search_trials import Trials  # which needs Dask
 
 MOST_SEASONS = 10_000_000
 SHARE = "a number from 0 to 1, as 0.05,"
@@ -106,8 +103,8 @@ def see_dask(name: str, given: Sequence[str]) -> None:
 def trials_of(name: str, asked: argparse.Namespace, settings: Settings, program: Program,
               path: str | None) -> ContextManager[Trials]:
     """The trials that the words of a command of some name ask for, kept in the file at a path."""
-    from nrm.searches.trials import Lengths, trials  # here, since Dask takes a second
     from nrm.seasons.cluster import Workers
+    from nrm.seasons.search_trials import Lengths, trials  # here, since Dask takes a second
     workers = Workers(asked.workers, asked.cluster, asked.tls, asked.patience, functools.partial(tell, name))
     return trials(bytes_in(asked.network), settings, program, asked.program or program.words, workers,
                   Lengths(asked.seasons, asked.check), path)

@@ -1,8 +1,5 @@
 """The words of a server of many desks: where clients come, who may, what ends waiting, which program answers, how often
 plans are made, and what is told.
-
-May use: nrm, nrm.desks.desk, nrm.desks.places, nrm.desks.relay.clients, nrm.desks.relay.doors.guards,
-nrm.desks.relay.fleet.fleet, nrm.desks.relay.telling.events, nrm.program.
 """
 from __future__ import annotations
 
@@ -11,13 +8,13 @@ import re
 from typing import Callable
 
 from nrm import Stop, bytes_in
-from nrm.desks.desk import TOKEN
-from nrm.desks.places import OWN_RIGHTS, Places
-from nrm.desks.relay.clients import Limits
-from nrm.desks.relay.doors.guards import Guard
-from nrm.desks.relay.fleet.fleet import Sharing
-from nrm.desks.relay.telling.events import FORMS, LEVELS, Log
+from nrm.desk import TOKEN
 from nrm.program import PIECE
+from nrm.server.clients import Limits
+from nrm.server.event_log import FORMS, LEVELS, Log
+from nrm.server.fleet import Sharing
+from nrm.server.sockets import OWN_RIGHTS, Places
+from nrm.server.watched_files import Guard
 
 LEAST_EVERY = 60
 MOST_TOKEN = 1000  # bytes of its file

@@ -1,4 +1,1 @@
-"""Many seasons: how they are drawn from the histories of a network, and what each mode makes of them.
-
-May use: nothing.
-"""
+"""Many seasons: how they are drawn and played, and what is compared, searched and shown of them."""

@@ -1,8 +1,7 @@
 """Who plays many seasons: Dask's workers here or of a scheduler elsewhere, what they get and how long one waits.
 
 They are sent this package, and what they give is taken only where the package and the program there are those here, to
-the byte. It needs Dask: who plays asks for `distributed` first. May use: nrm, nrm.program, nrm.seasons.drawing,
-nrm.seasons.rows.
+the byte. It needs Dask: who plays asks for `distributed` first.
 """
 from __future__ import annotations
 

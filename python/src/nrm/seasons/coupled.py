@@ -2,7 +2,7 @@
 
 The history comes from the seed and the number of the season, and all else of a product from its name too; so a product
 that another network has as well asks for the same there, in the same order, and what both earn can be compared season
-by season. Each season by itself is drawn as `drawing` draws it. May use: nrm.network, nrm.seasons.drawing.
+by season. Each season by itself is drawn as `drawing` draws it.
 """
 from __future__ import annotations
 

@@ -2,8 +2,7 @@
 
 All numbers are drawn by Python's own generator, from the seed, what the network file says of products and demand, and
 the number of the season: so a season is the same wherever and whenever it is drawn, and the same on two networks that
-differ in their legs' seats or thresholds alone; `coupled` is for those that differ in more. May use: nrm.network,
-nrm.replies.
+differ in their legs' seats or thresholds alone; `coupled` is for those that differ in more.
 """
 from __future__ import annotations
 

@@ -1,8 +1,4 @@
-"""What a mode makes of a season, by a run of the program, and the seasons that are played again or in batches.
-
-May use: nrm, nrm.limits, nrm.network, nrm.outside.averaged, nrm.outside.playing, nrm.program, nrm.replies,
-nrm.seasons.coupled, nrm.seasons.drawing.
-"""
+"""What a mode makes of a season, by a run of the program, and the seasons that are played again or in batches."""
 from __future__ import annotations
 
 import dataclasses
@@ -19,10 +15,10 @@ from typing import Iterable, Iterator
 from nrm import Stop
 from nrm.limits import LAST_BOOKING
 from nrm.network import Network, text_of
-from nrm.outside.averaged import AVERAGED, Averaged
-from nrm.outside.playing import replies_by_prices
 from nrm.program import Dialogue, Program
 from nrm.replies import Answer, Hindsight, NoAnswer, Overflow, Sold, answer_of
+from nrm.seasons.averaged_playing import replies_by_prices
+from nrm.seasons.averaged_prices import AVERAGED, Averaged
 from nrm.seasons.coupled import season_of
 from nrm.seasons.drawing import DrawnSeason, Requests, Settings, by_product, history_again, network_in, request_of
 

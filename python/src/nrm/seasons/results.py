@@ -1,6 +1,6 @@
 """What many seasons tell: their rows added up, and estimates from them.
 
-An analyst's own script may import it too: `Results.read(PATH)` reads a file of rows. May use: nrm, nrm.network.
+An analyst's own script may import it too: `Results.read(PATH)` reads a file of rows.
 """
 from __future__ import annotations
 

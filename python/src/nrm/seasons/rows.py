@@ -1,8 +1,7 @@
 """The rows that many seasons make: of a batch, which says who has played it, and of a network, kept as they come.
 
 A batch is played by this machine or another, so it comes with the checksums of the program and of this package there,
-and who asked for it compares. May use: nrm, nrm.files.writing, nrm.network, nrm.program, nrm.seasons.drawing,
-nrm.seasons.playing.
+and who asked for it compares.
 """
 from __future__ import annotations
 
@@ -22,11 +21,11 @@ from pathlib import Path
 from typing import IO, TYPE_CHECKING, Any, Iterable, Iterator, Mapping, Sequence
 
 from nrm import Stop, bytes_in, said
-from nrm.files.writing import Output, opened
 from nrm.network import MOST_DIGITS, Network
 from nrm.program import Program
 from nrm.seasons.drawing import DrawnSeason, Settings
 from nrm.seasons.playing import Clock, Outcome, Player
+from nrm.writing_files import Output, opened
 
 if TYPE_CHECKING:
     from importlib.abc import Traversable  # later Pythons have it elsewhere

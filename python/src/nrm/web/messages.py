@@ -2,7 +2,7 @@
 
 Of a head each line is seen as it came. A proxy in front may end a head, a field or a body elsewhere than Python's
 parser does, where a line is none of those that HTTP knows: then what is a body to the one is a next request to the
-other. May use: nrm.desks.desk.
+other.
 """
 from __future__ import annotations
 
@@ -11,7 +11,7 @@ import re
 from dataclasses import dataclass, field
 from typing import Callable, Iterator, Mapping, Tuple, Union
 
-from nrm.desks.desk import TOKEN
+from nrm.desk import TOKEN
 
 TEXT, JSON, HTML = "text/plain; charset=utf-8", "application/json", "text/html; charset=utf-8"
 PASSES = (("Retry-After", "1"),)  # with what may be asked again soon

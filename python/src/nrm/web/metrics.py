@@ -1,8 +1,7 @@
 """What a monitor is told: whether all is well, in a line, and what there is to count, as Prometheus reads it.
 
 What is counted by network comes from the journal, and the rest from the line `status`. The text is written by Debian's
-python3-prometheus-client. May use: nrm.desks.status, nrm.telling.libraries, nrm.web.asking.status,
-nrm.web.following.journal, nrm.web.messages.
+python3-prometheus-client.
 """
 from __future__ import annotations
 
@@ -11,11 +10,11 @@ from datetime import datetime, timezone
 from math import isinf
 from typing import Any, Iterator, Sequence, cast
 
-from nrm.desks.status import NoStatus, Status
-from nrm.telling.libraries import is_there, lacks
-from nrm.web.asking.status import Asked
-from nrm.web.following.journal import Followed, Following
+from nrm.libraries import is_there, lacks
+from nrm.server.status_text import NoStatus, Status
+from nrm.web.followed_journal import Followed, Following
 from nrm.web.messages import Refusal, Request, Response, text_of
+from nrm.web.recent_status import Asked
 
 LIBRARY = "prometheus_client"
 MOST_NAMED = 20  # networks in a sentence

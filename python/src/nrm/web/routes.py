@@ -1,9 +1,4 @@
-"""Which path is for whom: the routes, as the description in openapi.json has them too, and what answers each.
-
-May use: nrm.desks.journals.networks, nrm.desks.status, nrm.telling.libraries, nrm.web.asking.kept,
-nrm.web.asking.looks, nrm.web.asking.status, nrm.web.door.lines, nrm.web.following.journal, nrm.web.messages,
-nrm.web.metrics, nrm.web.showing.accounts, nrm.web.showing.pages.
-"""
+"""Which path is for whom: the routes, as the description in openapi.json has them too, and what answers each."""
 from __future__ import annotations
 
 import re
@@ -14,18 +9,18 @@ from pathlib import Path
 from typing import Callable, NamedTuple
 from urllib.parse import unquote
 
-from nrm.desks.journals.networks import NAME
-from nrm.desks.status import ask_status
-from nrm.telling.libraries import is_there, lacks
-from nrm.web.asking.kept import Kept, Who, desk_of_token, own_desk
-from nrm.web.asking.looks import Looks
-from nrm.web.asking.status import Asked
-from nrm.web.door.lines import Door, no_network
-from nrm.web.following.journal import Following
+from nrm.journal.networks import NAME
+from nrm.libraries import is_there, lacks
+from nrm.server.status_text import ask_status
+from nrm.web.connections import Kept, Who, desk_of_token, own_desk
+from nrm.web.followed_journal import Following
+from nrm.web.html_pages import Pages
+from nrm.web.line_accounts import Accounts
 from nrm.web.messages import JSON, Answer, Refusal, Request, Response
 from nrm.web.metrics import LIBRARY, Watch
-from nrm.web.showing.accounts import Accounts
-from nrm.web.showing.pages import Pages
+from nrm.web.posted_lines import Door, no_network
+from nrm.web.priced_networks import Looks
+from nrm.web.recent_status import Asked
 
 PAGES_LIBRARY = "jinja2"
 DESCRIPTION = Path(__file__).with_name("openapi.json")

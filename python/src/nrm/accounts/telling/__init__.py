@@ -1,4 +1,0 @@
-"""An account told: in a sentence, and as a page.
-
-May use: nothing.
-"""

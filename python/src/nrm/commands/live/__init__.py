@@ -1,1 +1,0 @@
-"""Commands beside a running session."""

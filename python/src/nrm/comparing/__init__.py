@@ -1,4 +1,0 @@
-"""What many seasons say: modes and networks beside one another, the verdict first, then pictures and tables.
-
-May use: nothing.
-"""

@@ -1,4 +1,0 @@
-"""A journal in PostgreSQL, for whose networks several servers answer.
-
-May use: nothing.
-"""

@@ -1,4 +1,0 @@
-"""Whose each network is: a server's alone, or one's among several that share a journal.
-
-May use: nothing.
-"""

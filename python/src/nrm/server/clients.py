@@ -1,0 +1,441 @@
+"""The clients: how much of each the program has and hasn't used, what waits to be sent to it, and when it is cut off.
+"""
+from __future__ import annotations
+
+import re
+import socket
+import ssl
+import weakref
+from dataclasses import dataclass
+from typing import Protocol
+
+from nrm.desks_frames import MOST, WINDOW
+from nrm.server.access import Right
+from nrm.server.counters import Counters
+from nrm.server.loop import LEFT, READ, WRITE, Loop
+from nrm.server.passing_on import PASSED
+from nrm.server.tls import RECORD, Secure
+from nrm.server.tokens import FRONT, HERE, Tokens
+
+PIECE = 16_384  # bytes that are read at a time
+LONGEST = 1000  # of a first line that names a network
+NAMES_A_NETWORK = re.compile(rb"desk [a-z]")  # as no greeting of a desk alone does
+ASKS_STATUS = re.compile(rb"status\r?\n")
+FRONTS = (b"desk a", b"status\n", b"status\r\n")  # as long as what came is one of these, more must come
+LOOK = "look"  # the right that one needs who gave a token and asks for the status
+
+
+@dataclass(frozen=True)
+class Limits:
+    """What ends waiting, and what bounds memory.
+
+    clients  the most at a time
+    unsent   the bytes of replies that a client hasn't taken
+    slow     the seconds for a line once it has begun, for saying who it is, for taking replies, and for the end
+    idle     those for a next line
+    answer   those for a program's next frame before it is ended
+    linger   those for which a program without clients stays
+    """
+    clients: int = 1000
+    unsent: int = 1_048_576
+    slow: float = 30
+    idle: float = 3600
+    answer: float = 3600
+    linger: float = 600
+
+    def clients_of_ports(self) -> int:
+        """The most at a time where a further one comes by a port: the last tenth is for those of the Unix socket."""
+        return max(1, self.clients - max(1, self.clients // 10))
+
+
+class Session(Protocol):
+    """What a client needs of the run of its network's program."""
+    is_full: bool
+
+    def give(self, client: Client, data: bytes) -> None:
+        """Gives the program what came from a client."""
+
+    def part(self, client: Client) -> None:
+        """Tells the program that a client is gone."""
+
+
+class Hall(Protocol):
+    """What a client needs of the server that it came to."""
+    limits: Limits
+    loop: Loop
+    tokens: Tokens
+    counters: Counters
+
+    def enter(self, client: Client, network: str | None, data: bytes) -> None:
+        """Finds a client its network, the only one if it named none, and gives it what came so far."""
+
+    def leave(self, client: Client) -> None:
+        """Forgets a client."""
+
+    def status_text(self) -> bytes:
+        """What is answered to a line `status`."""
+
+    def tell_of_closed(self, client: Client, why: str) -> None:
+        """Counts and tells why a client is closed."""
+
+    def tell_of_unread(self) -> None:
+        """Counts and tells that a client is dropped which doesn't take its replies."""
+
+
+class Client:
+    """A connection. The bytes that the program has of it and hasn't used are counted, and those behind the last line
+    feed; nothing else is looked at once its desk and its network are known."""
+    is_passed = False  # by another server, so that it isn't passed on once more
+    asked = b""  # what came until its network was known, as it came
+
+    def __init__(self, hall: Hall, connection: socket.socket, address: str = HERE,
+                 context: ssl.SSLContext | None = None) -> None:
+        connection.setblocking(False)
+        if connection.family != socket.AF_UNIX:
+            connection.setsockopt(socket.IPPROTO_TCP, socket.TCP_NODELAY, 1)
+        self.hall, self.address, self.counters = hall, address, hall.counters
+        self.secure = Secure(connection, context) if context else None
+        self.socket = self.secure or connection
+        self.file = self.socket.fileno()
+        self.least = RECORD if context else 1  # the bytes for which there must be room when it is read
+        self.right: Right | None = None  # by its token
+        self.is_to_give_token = hall.tokens.access is not None and address != HERE
+        self.may_give_token = True
+        self.is_refused = False  # the answer to its wrong token waits
+        self.session: Session | None = None
+        self.network: str | None = None  # its name, once it is known
+        self.asks_status = self.is_told = False  # whether that it is closed was told
+        self.place = -1  # none yet
+        self.first, self.out = b"", bytearray()
+        self.unused = self.tail = 0
+        self.is_waiting = False  # for its network's program
+        self.is_heard = True
+        self.is_open, self.has_ended, self.is_parting, self.is_done = True, False, False, False
+        self.why: str | None = None  # it is cut off, once its lines are answered
+        # since when its time runs: from the connection until it is somebody, then from where a line begins or ends
+        self.since = hall.loop.now
+        self.full_since: float | None = None
+        self.watch()
+
+    # What comes
+
+    def watch(self) -> None:
+        """Has the loop call when there is something to do: no more is read while too much waits somewhere."""
+        if not self.is_open:
+            return
+        self.is_heard = not (self.has_ended or self.why or self.is_done or self.is_waiting or len(self.out) > MOST
+                             or self.unused > WINDOW - self.least or self.session and self.session.is_full
+                             or self.asks_status and self.out)
+        what = (READ if self.is_heard else 0) | (WRITE if self.out else 0)
+        what = self.secure.watched(what) if self.secure else what
+        if self.is_refused and not self.is_done:
+            self.hall.loop.want(self.file, LEFT, self.go)
+        else:
+            self.hall.loop.want(self.file, what, self.read if what == READ else self.ready)
+
+    def go(self, _: int) -> None:
+        """It has left while its answer waited, and keeps no place."""
+        self.vanish()
+
+    def ready(self, what: int) -> None:
+        """Reads and sends what can be."""
+        if self.out and what != READ:
+            self.send()
+            if self.asks_status and self.first:
+                self.tell_status()
+        is_to_read = what != WRITE or self.secure and self.secure.is_to_write
+        if self.is_open and is_to_read and not (self.has_ended or self.is_done):
+            self.read(what)
+
+    def read(self, what: int) -> None:
+        """Reads a piece, as long as the program may have more of this client."""
+        room = WINDOW - self.unused
+        if room < self.least:
+            return
+        try:
+            piece = self.socket.recv(room if room < PIECE else PIECE)
+        except BlockingIOError:
+            self.watch()
+            return
+        except OSError:
+            self.vanish()
+            return
+        self.counters.bytes_in += len(piece)
+        if self.secure:
+            self.watch()
+        if piece and self.session:
+            self.pass_on(piece)
+        elif piece:
+            self.choose(piece)
+        else:
+            self.end()
+
+    def choose(self, piece: bytes) -> None:
+        """Finds the desk by the first line, if that has a token, and the network by the next one, if that names one, or
+        by its first bytes."""
+        if not self.first and not self.is_to_give_token:
+            self.since = self.hall.loop.now
+        self.first += piece
+        if not self.is_passed and PASSED[:len(self.first)] == self.first[:len(PASSED)]:
+            self.is_passed = len(self.first) >= len(PASSED)
+            self.first = self.first[len(PASSED):] if self.is_passed else self.first
+            if not self.is_passed or not self.first:
+                return
+        if self.may_give_token and not self.is_without_token():
+            return
+        if self.asks_status or ASKS_STATUS.match(self.first):
+            self.ask_status()
+            return
+        if not NAMES_A_NETWORK.match(self.first):
+            if not any(it.startswith(self.first) for it in FRONTS):
+                self.enter(None, self.first)
+            return
+        line, feed, rest = self.first.partition(b"\n")
+        if feed:
+            _, network, *words = line.split(b" ")
+            self.enter(network.decode("latin-1"), b" ".join([b"desk", *words]) + b"\n" + rest)
+        elif len(line) >= LONGEST:
+            self.finish("long")
+
+    def ask_status(self) -> None:
+        """Is told the status from now on, and nothing else, if it may look."""
+        self.asks_status = True
+        if self.right and LOOK not in self.right.rights:
+            self.finish("token")
+        else:
+            self.tell_status()
+
+    def tell_status(self) -> None:
+        """Answers each line `status`, as soon as what was told before it is taken. Another line ends the connection."""
+        while self.first and not (self.out or self.is_done) and self.is_open:
+            if ASKS_STATUS.match(self.first):
+                self.first = self.first.partition(b"\n")[2]
+                self.put(self.hall.status_text())
+            elif any(it.startswith(self.first) for it in FRONTS[1:]):
+                return
+            else:
+                self.finish("status")
+
+    def is_without_token(self) -> bool:
+        """Whether the first line is another than one with a token, and may be; that one is taken once it is whole."""
+        if FRONT[:len(self.first)] == self.first[:len(FRONT)]:
+            line, feed, rest = self.first.partition(b"\n")
+            if len(line) >= LONGEST:
+                self.finish("long")
+            elif feed:
+                self.first = rest
+                self.give_token(line[len(FRONT):])
+            return False
+        if self.is_to_give_token:
+            self.finish("token")
+            return False
+        self.may_give_token = False
+        return True
+
+    def give_token(self, token: bytes) -> None:
+        """Has a token looked up. A wrong one may be answered later: nothing is read until then, and nothing of a client
+        that has left is kept for it."""
+        self.is_waiting, self.may_give_token = True, False
+        self.right, wait = self.hall.tokens.asked(self.address, token)
+        if wait:
+            self.is_refused = True
+            answer = weakref.WeakMethod(self.answer_token)
+            self.hall.loop.call_at(self.hall.loop.now + wait, lambda: call() if (call := answer()) else None)
+            self.watch()
+        else:
+            self.answer_token()
+
+    def answer_token(self) -> None:
+        """Says which desk it is, and goes on with what came behind; or ends it."""
+        if not self.is_open or self.is_done:
+            return
+        self.is_waiting = self.is_to_give_token = self.is_refused = False
+        self.since = self.hall.loop.now
+        if not self.right:
+            self.finish("token")
+            return
+        self.put(f"token {self.right.name}\n".encode())
+        rest, self.first = self.first, b""
+        if rest and self.is_open:
+            self.choose(rest)
+        self.watch()
+
+    def enter(self, network: str | None, data: bytes) -> None:
+        """Comes to a network, whose program may still have to begin, or which another server has."""
+        self.asked, self.first = self.first, b""
+        self.is_waiting = True
+        self.hall.enter(self, network, data)
+        self.watch()
+
+    def may_be_passed(self) -> bool:
+        """Whether another server can take it as it is: it is no desk by a token, and speaks no TLS."""
+        return self.secure is None and self.right is None
+
+    def hand_on(self) -> tuple[socket.socket, bytes]:
+        """Its connection and what came on it, which aren't this client's any more."""
+        assert isinstance(self.socket, socket.socket)
+        self.hall.loop.forget(self.file)
+        self.is_open, self.is_waiting, self.is_done, self.is_told = False, False, True, True
+        self.hall.leave(self)
+        return self.socket, self.asked
+
+    def let_in(self, session: Session, place: int, data: bytes) -> None:
+        """Is at a place of its network's program, which gets what came so far."""
+        self.session, self.place, self.is_waiting = session, place, False
+        for at in range(0, len(data), MOST):
+            self.pass_on(data[at:at + MOST])
+        if self.has_ended:
+            self.end()
+        self.watch()
+
+    def pass_on(self, piece: bytes) -> None:
+        """Gives the program a piece. Bytes within a line don't give it more time."""
+        assert self.session
+        size, last = len(piece), piece.rfind(b"\n")
+        if last >= 0 or not self.tail:
+            self.since = self.hall.loop.now
+        self.unused += size
+        self.tail = size - 1 - last if last >= 0 else self.tail + size
+        self.session.give(self, piece)
+        if self.unused > WINDOW - self.least:
+            self.watch()
+
+    def end(self) -> None:
+        """Nothing more comes: half a line at the end isn't taken."""
+        self.has_ended = True
+        if not self.session and not self.is_waiting:
+            self.finish(None)
+        else:
+            self.part_if_used()
+            self.watch()
+
+    # What is sent
+
+    def used(self, count: int, data: bytes) -> None:
+        """The program has used bytes of this client, and answers."""
+        self.unused -= count
+        if data and self.is_open and not self.is_done:
+            self.put(data)
+        if self.has_ended or self.why:
+            self.part_if_used()
+        elif not self.is_heard:
+            self.watch()
+
+    def put(self, data: bytes) -> None:
+        """Sends something, at once if nothing waits before it."""
+        if not self.out:
+            try:
+                sent = self.socket.send(data)
+            except BlockingIOError:
+                sent = 0
+            except OSError:
+                self.vanish()
+                return
+            self.counters.bytes_out += sent
+            if sent == len(data):
+                return
+            data = data[sent:]
+        self.out += data
+        self.send()
+
+    def send(self) -> None:
+        """Sends what the connection takes."""
+        if self.out:
+            try:
+                sent = self.socket.send(self.out)
+                del self.out[:sent]
+                self.counters.bytes_out += sent
+            except BlockingIOError:
+                pass
+            except OSError:
+                self.vanish()
+                return
+        if len(self.out) > self.hall.limits.unsent:
+            self.cut_off()
+        elif self.is_done and not self.out:
+            self.shut()
+        else:
+            self.full_since = (self.full_since or self.hall.loop.now) if len(self.out) > MOST else None
+            self.watch()
+
+    # How it ends
+
+    def leave(self, why: str) -> None:
+        """It is cut off, once the lines that the program has are answered."""
+        if self.why or self.is_done:
+            return
+        self.why = why
+        if self.session:
+            self.part_if_used()
+            self.watch()
+        else:
+            self.finish(why)
+
+    def part_if_used(self) -> None:
+        """Tells the program that it is gone, once all its whole lines are used."""
+        if self.session and not self.is_parting and self.unused <= self.tail:
+            self.is_parting = True
+            self.session.part(self)
+
+    def closed(self, why: str) -> None:
+        """The program has closed it; if since it is gone, the reason is this server's."""
+        self.session = None
+        if self.is_open and not self.is_done:
+            self.finish(self.why if why == "gone" else why)
+        elif not self.is_open:
+            self.hall.leave(self)
+
+    def finish(self, why: str | None) -> None:
+        """Says why, and ends the connection once all is sent. The program knows it no more."""
+        if why and self.is_open and not self.is_done:
+            self.is_told = True
+            self.hall.tell_of_closed(self, why)
+        self.session, self.is_waiting, self.is_done, self.since = None, False, True, self.hall.loop.now
+        if self.secure and not self.secure.is_shaken:
+            self.vanish()  # nothing can be said to it
+            return
+        if why:
+            self.out += f"closed {why}\n".encode()
+        self.send()
+
+    def shut(self) -> None:
+        """Ends the connection, and takes from it what has come, so that what was sent isn't lost with it."""
+        try:
+            self.socket.shutdown(socket.SHUT_WR)
+            while not self.has_ended and self.socket.recv(MOST):
+                pass
+        except OSError:
+            pass
+        self.vanish()
+
+    def cut_off(self) -> None:
+        """It doesn't take its replies, so what is unsent is dropped."""
+        self.is_told = True
+        self.hall.tell_of_unread()
+        self.vanish()
+
+    def vanish(self) -> None:
+        """The connection is no more. Its place is free once the program says so."""
+        if self.is_open:
+            self.is_open = self.is_waiting = False
+            self.hall.loop.forget(self.file)
+            self.socket.close()
+            self.out.clear()
+        if not self.session:
+            self.hall.leave(self)
+        elif not self.is_parting:
+            self.is_parting = True
+            self.session.part(self)
+
+    def look(self) -> None:
+        """Cuts it off if for too long it has been silent, in a line, nobody yet, or not taking its replies."""
+        limits, now = self.hall.limits, self.hall.loop.now
+        if not self.is_open:
+            return
+        if now - (self.full_since or (self.since if self.is_done else now)) > limits.slow:
+            self.cut_off()
+        elif not (self.is_waiting or self.is_done or self.why or self.has_ended or self.unused > self.tail):
+            has_half = self.tail or self.first
+            is_to_begin = self.is_to_give_token or self.secure and not self.secure.is_shaken
+            if now - self.since > (limits.slow if has_half or is_to_begin else limits.idle):
+                self.leave("half" if has_half else "token" if is_to_begin else "idle")

@@ -1,4 +1,0 @@
-"""What is read out of the journal while a server writes it: of each network what was sold, refused and earned.
-
-May use: nothing.
-"""

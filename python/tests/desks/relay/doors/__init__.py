@@ -1,1 +1,0 @@
-"""Tests of who comes to a server, and is who he says."""

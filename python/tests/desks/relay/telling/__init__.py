@@ -1,1 +1,0 @@
-"""Tests of what the server tells: its log, its counters, and its status."""

@@ -1,1 +1,0 @@
-"""Tests of the clock of a server."""

@@ -1,1 +1,0 @@
-"""Tests of controls that the program hasn't."""

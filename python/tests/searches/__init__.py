@@ -1,1 +1,0 @@
-"""Tests of what is searched for by seasons."""
