@@ -16,7 +16,7 @@ from nrm.commands.running import add_program, parser
 from nrm.network import Network, text_of, whole
 from nrm.program import Program
 from nrm.seasons.drawing import Settings
-from nrm.seasons.playing import Clock, Player, played
+from nrm.seasons.playing import Player, ProgramTime, played
 from nrm.seasons.results import Estimate
 from running import NAME, end
 
@@ -68,7 +68,7 @@ def main():
                 season = player.season(number)
                 for mode in MODES:
                     for factor in (1.0, *given.factors):
-                        it = played(network, season, program, mode, plans.path(factor, season.history), Clock())
+                        it = played(network, season, program, mode, plans.path(factor, season.history), ProgramTime())
                         earned.setdefault((mode, factor), []).append(it.revenue)
         print(f"{path}, scale {given.scale}, seasons {given.seasons}")
         for mode in MODES:

@@ -35,7 +35,7 @@ from nrm.commands.running import parser
 from nrm.limits import MOST_HISTORIES, MOST_PERIODS
 from nrm.network import Network, whole
 from nrm.program import Program
-from nrm.records.closures import NOON, Reading, closures_between
+from nrm.records.closures import NOON, AvailabilityReading, closures_between
 from nrm.records.estimate_results import carried, drawn
 from running import NAME, end
 
@@ -63,7 +63,7 @@ def readings(network, closures, departures, days):
         for at in range(-OPENS, 1, days):
             moment = at + NOON
             is_closed = any(first <= moment < last for first, last in closed[departs, name])
-            yield Reading(departs, name, moment, not is_closed)
+            yield AvailabilityReading(departs, name, moment, not is_closed)
 
 
 def mean_of(values):

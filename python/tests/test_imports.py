@@ -1,10 +1,11 @@
-"""Which room of the package may use which, and that no import comes back."""
+"""Which room of the package may use which, that no import comes back, and that each name is given once."""
 from __future__ import annotations
 
 import ast
 import subprocess
 import sys
 import unittest
+from collections import defaultdict
 from pathlib import Path
 from typing import Iterable
 
@@ -24,6 +25,12 @@ MAY_USE = {  # a room may use itself and, but for the last two lines, the module
     "commands": "accounts journal legs pages records seasons server web",
     "": "",  # no room: `desk`, `network`, `program`, `replies` and others, which all rooms may use
     "__main__": "commands",
+}
+FILES_BY_INTENT = {"__init__.py"}  # names that several files have
+CLASSES_BY_INTENT = {  # names that several classes have
+    "Leg": "of a network, and the answer `leg` to a desk",
+    "Nest": "of a plan, and the auditor's own, who shares nothing",
+    "Network": "that which all use, and the auditor's own",
 }
 
 
@@ -86,6 +93,11 @@ def refused_in(graph: dict[str, set[str]]) -> list[str]:
             if room_of(it) not in {room_of(name), "", *MAY_USE[room_of(name)].split()}]
 
 
+def given_twice(places: dict[str, list[str]], by_intent: Iterable[str]) -> dict[str, list[str]]:
+    """The names that several have though that isn't meant, and those of which it is meant and which but one has."""
+    return {name: some for name, some in places.items() if (len(some) > 1) != (name in by_intent)}
+
+
 class Imports(unittest.TestCase):
     def test_each_room_uses_what_it_may(self) -> None:
         self.assertEqual({room_of(it) for it in MODULES}, MAY_USE.keys())
@@ -112,6 +124,18 @@ class Imports(unittest.TestCase):
         self.assertEqual([str(it) for it in MODULES.values() if len(it.relative_to(PACKAGE).parts) > 2], [])
         tests = TOP / "python" / "tests"
         self.assertEqual([str(it) for it in tests.rglob("*.py") if len(it.relative_to(tests).parts) > 2], [])
+
+    def test_a_name_is_given_once(self) -> None:
+        files, classes = defaultdict(list), defaultdict(list)
+        for name, path in sorted(MODULES.items()):
+            files[path.name].append(name)
+            for node in ast.walk(ast.parse(path.read_text())):
+                if isinstance(node, ast.ClassDef):
+                    classes[node.name].append(name)
+        self.assertEqual(given_twice(files, FILES_BY_INTENT), {})
+        self.assertEqual(given_twice(classes, CLASSES_BY_INTENT), {})
+        self.assertEqual(given_twice({"A": ["a", "b"], "B": ["a"], "C": ["c"], "D": ["a", "c"]}, ["C", "D"]),
+                         {"A": ["a", "b"], "C": ["c"]})
 
     def test_nobody_writes_the_path_of_imports(self) -> None:
         for path in (TOP / "python").rglob("*.py"):

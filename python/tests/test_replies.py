@@ -7,14 +7,15 @@ from fractions import Fraction
 
 from harness import EXAMPLES, PlaceTest
 from nrm.replies import (Cancelled, Cuts, Hindsight, Leg, LegValue, Memory, Nest, NoAnswer, NoFare, NoLeg, Optimised,
-                         Overflow, Plan, Sold, Store, Unknown, answer_of, cuts_of, leg_value_of, plan_of, replies_of)
+                         Overflow, Plan, Sold, StoreReply, Unknown, answer_of, cuts_of, leg_value_of, plan_of,
+                         replies_of)
 
 ANSWERS = {
     "ok 7": Sold(7), "no AB-1": NoLeg("AB-1"), "no fare": NoFare(), "unknown": Unknown(),
     "cancelled 3 120": Cancelled(3, 120),
     "optimised 7/2": Optimised(Fraction(7, 2)), "optimised none": Optimised(None), "overflow": Overflow(),
     "memory": Memory(),
-    "store": Store(), "first": Plan(), "hindsight 7/3 revenue 2 withheld 1": Hindsight(Fraction(7, 3), 2, 1),
+    "store": StoreReply(), "first": Plan(), "hindsight 7/3 revenue 2 withheld 1": Hindsight(Fraction(7, 3), 2, 1),
     "leg AB seats 9 authorised 8 sold 3 left 5\non AB P 3": Leg("AB", 9, 8, 3, 5, {"P": 3}),
     "value 5/2\nproduct P 1/2\nleg AB 3/1": Plan(Fraction(5, 2), {"P": Fraction(1, 2)}, {"AB": Fraction(3)}),
     "value 5/2\nproduct P 1/2\nleg AB 3/1\nnest AB P 4/1 2\nprotect AB 6": Plan(

@@ -85,7 +85,7 @@ class Memory(Plain):
     """There was too little memory, and nothing has changed."""
 
 
-class Store(Plain):
+class StoreReply(Plain):
     """The store failed, and nothing has changed."""
 
 
@@ -155,10 +155,10 @@ class Hindsight:
     withheld: int
 
 
-Answer = Union[Sold, NoLeg, NoFare, Unknown, Cancelled, Optimised, Overflow, Memory, Store, Denied, Available, Leg,
+Answer = Union[Sold, NoLeg, NoFare, Unknown, Cancelled, Optimised, Overflow, Memory, StoreReply, Denied, Available, Leg,
                Plan, Hindsight]
 SAME: dict[str, Answer] = {
-    "unknown": Unknown(), "overflow": Overflow(), "memory": Memory(), "store": Store(), "no fare": NoFare(),
+    "unknown": Unknown(), "overflow": Overflow(), "memory": Memory(), "store": StoreReply(), "no fare": NoFare(),
     "denied": Denied(), "first": Plan(), "optimised none": Optimised(None)}
 FORMS: list[tuple[re.Pattern[str], Callable[..., Answer]]] = [
     (re.compile(r"ok ([0-9]+)"), lambda number: Sold(whole(number))),

@@ -20,7 +20,7 @@ from accounts.test_why import BID, NESTS, NEST_LINES, REFERENCE
 from harness import SOURCES, Done, WithinTest, needs
 from nrm.journal.networks import end_network, open_network
 from nrm.journal.sqlite_tables import begin, using
-from nrm.journal.sqlite_writing import Given, Writer, halt
+from nrm.journal.sqlite_writing import Given, SqliteWriter, halt
 from nrm.program import Program
 
 LINES = ["book THRU 1", "book LOW 1", "book LOC 1", "reoptimise 2", "book THRU 1", "cancel 1", "book LOW 999",
@@ -54,7 +54,7 @@ class JournalTest(WithinTest):
         replies = self.program.replies_of_a_line(mode, str(network), stream)
         rows = [f"{at}\t{DESKS[at % 3]}\t{(at + 2) // 3}\t{line}\t{reply.decode()}\n"
                 for at, (line, reply) in enumerate(zip(lines, replies), 1)]
-        writer = Writer(str(path), self.desks)
+        writer = SqliteWriter(str(path), self.desks)
         self.assertEqual(writer.write([Given(1, 1, 0, "".join(rows).encode())]), {})
         writer.close()
         return path

@@ -4,8 +4,8 @@ from __future__ import annotations
 import unittest
 from fractions import Fraction
 
-from nrm.accounts.reading import (Account, Cancellation, Enough, Fares, LegAccount, Nest, Optimisation, Request,
-                                  account_of)
+from nrm.accounts.reading import (Account, CancellationAccount, Enough, Fares, LegAccount, NestAccount, Optimisation,
+                                  RequestAccount, account_of)
 from nrm.replies import NoAnswer
 
 SHORT = """line 417 book HJ-Q 2
@@ -48,28 +48,28 @@ class Accounts(unittest.TestCase):
     def test_a_leg_that_is_short(self) -> None:
         account = account_of(SHORT)
         legs = (LegAccount("HAM-FRA", 60, 41, 19, 0, 2, None, None), LegAccount("FRA-NRT", 40, 39, 1, 0, 2, 1, None))
-        self.assertEqual(account, Account(417, "book HJ-Q 2", Request(
+        self.assertEqual(account, Account(417, "book HJ-Q 2", RequestAccount(
             "bid", 355, 2, "HJ-Q", 540, 25, legs, None, 1, "no FRA-NRT"), "no FRA-NRT", SHORT))
 
     def test_a_fare_below_the_prices(self) -> None:
         reasons = account_of(BELOW).reasons
-        assert isinstance(reasons, Request)
+        assert isinstance(reasons, RequestAccount)
         self.assertEqual((reasons.planned, reasons.largest, reasons.beyond), (0, 0, "no fare"))
         self.assertEqual(reasons.fares,
                          Fares((("A", Fraction(1121, 2)),), Fraction(1121, 2), 540, Fraction(41, 2)))
         reaches = account_of(BELOW.replace("below 41/2", "reaches")).reasons
-        assert isinstance(reaches, Request) and reaches.fares
+        assert isinstance(reaches, RequestAccount) and reaches.fares
         self.assertIsNone(reaches.fares.below)
 
     def test_seats_that_are_protected(self) -> None:
         reasons = account_of(PROTECTED).reasons
-        assert isinstance(reasons, Request)
+        assert isinstance(reasons, RequestAccount)
         enough = Enough(7, 1, Fraction(2880, 7), Fraction(150), 4, 1, (6, 6, 9, 7))
         self.assertEqual([it.nest for it in reasons.legs], [
-            Nest(Fraction(-191), 2, 3, 100, 300, enough), Nest(Fraction(80), 3, 3, None, 100, None)])
+            NestAccount(Fraction(-191), 2, 3, 100, 300, enough), NestAccount(Fraction(80), 3, 3, None, 100, None)])
 
     def test_other_lines(self) -> None:
-        self.assertEqual(account_of(CANCELLED).reasons, Cancellation(17, "P", 2, 540, 1080, 25, 270, 810))
+        self.assertEqual(account_of(CANCELLED).reasons, CancellationAccount(17, "P", 2, 540, 1080, 25, 270, 810))
         self.assertEqual(account_of("line 4 reoptimise 2\nleft A 2\nleft B 0\nanswer optimised none\n").reasons,
                          Optimisation((("A", 2), ("B", 0))))
         for text, asked, answer in (("line 5 leg A\n", "leg A", None), ("line 6 plan\n", "plan", None),

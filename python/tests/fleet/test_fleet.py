@@ -8,7 +8,7 @@ import unittest
 from fleet.fleets import FleetTest, Server, stopped
 from harness import SECONDS, meanwhile, wait_for
 from nrm.desk import Desk, Sold
-from nrm.journal.stores import REPLACED, Head, Member, Seen
+from nrm.journal.stores import REPLACED, Head, Member, SeenServers
 from nrm.server.fleet_owners import preferred, wanted_of
 from nrm.server.status_text import ask_status
 from server.serves import PATIENT
@@ -203,8 +203,9 @@ def head(number: int, server: int | None, program: str = "p", lines: int = 5) ->
     return Head(number, f"n{number}", "first", program, False, None, lines, 1, server)
 
 
-def seen(members: list[Member], heads: list[Head], dead: frozenset[int] = frozenset(), is_sure: bool = True) -> Seen:
-    return Seen(members[0].server, tuple(members), dead, is_sure, tuple(heads), None, 0)
+def seen(members: list[Member], heads: list[Head], dead: frozenset[int] = frozenset(),
+         is_sure: bool = True) -> SeenServers:
+    return SeenServers(members[0].server, tuple(members), dead, is_sure, tuple(heads), None, 0)
 
 
 class Owning(unittest.TestCase):

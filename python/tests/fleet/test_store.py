@@ -11,9 +11,9 @@ from fleet.pooler import Pooler
 from harness import SECONDS, meanwhile, wait_for
 from nrm import Stop
 from nrm.journal.choosing_store import store_of, using
-from nrm.journal.looking import Wanted, lines_of, summary
+from nrm.journal.looking import WantedLines, lines_of, summary
 from nrm.journal.networks import network_in, rows_of
-from nrm.journal.stores import Given, Named, Unknown
+from nrm.journal.stores import Given, Named, UnknownOutcome
 from server.serves import ONE
 
 MARCH = 1_700_000_000_000
@@ -49,7 +49,7 @@ class Stores(FleetTest):
         with using(self.database.uri) as tables:
             self.assertEqual(b"".join(rows_of(tables, 1)), given[0].rows)
             self.assertEqual(network_in(tables, "net").lines, 2)
-        self.assertEqual([it.split("\t")[3:] for it in lines_of(self.database.uri, "net", Wanted(booking=1))],
+        self.assertEqual([it.split("\t")[3:] for it in lines_of(self.database.uri, "net", WantedLines(booking=1))],
                          [["2", "book LOC 1", "ok 1"]])
 
     def test_the_fence_lets_nothing_through_but_the_owners_next_rows(self) -> None:
@@ -81,7 +81,7 @@ class Stores(FleetTest):
         """Writes a row, and notes what comes of it."""
         try:
             found.append(self.writer.write([self.given(1, 0, ROW)]))
-        except Unknown as why:
+        except UnknownOutcome as why:
             found.append(why)
 
     def test_who_is_cut_off_within_a_commit_knows_nothing(self) -> None:
@@ -93,7 +93,7 @@ class Stores(FleetTest):
             wait_for(lambda: self.database.ask("SELECT pg_terminate_backend(pid) FROM pg_stat_activity WHERE "
                                                "wait_event_type = 'Lock'"), "a writer that waits")
             thread.join(SECONDS)
-            self.assertIsInstance(found[0], Unknown)
+            self.assertIsInstance(found[0], UnknownOutcome)
         self.assertEqual(self.writer.write([self.given(1, 0, b"")]), {}, "a next call connects anew")
 
     def test_a_wait_that_is_cancelled_is_no_commit(self) -> None:
@@ -114,10 +114,10 @@ class Stores(FleetTest):
         for setting in "off", "local":
             self.set_for_the_role(setting)
             with contextlib.closing(store.writer("p")) as writer, self.subTest(setting):
-                self.assertRaises(Unknown, writer.write, [self.given(1, 0, b"")])
+                self.assertRaises(UnknownOutcome, writer.write, [self.given(1, 0, b"")])
             with contextlib.closing(store.members(Named("two", "", "p"))) as members, self.subTest(setting):
                 seen = members.beat(False)
-                self.assertRaises(Unknown, members.take, [(2, seen.heads[1].epoch)])
+                self.assertRaises(UnknownOutcome, members.take, [(2, seen.heads[1].epoch)])
                 self.want_in(str(seen.weakness), f"synchronous_commit is {setting} in its sessions")
 
     def test_which_settings_wait_for_the_disk_of_another_machine(self) -> None:

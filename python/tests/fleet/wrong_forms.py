@@ -79,7 +79,7 @@ split_part(entry, E'\\t', 6) = ''
         moment("databases.Databases.test_a_line_that_is_on_the_primary_alone_is_not_told"),
         "AssertionError: .*another answers from what it sees"),
     "a commit whose connection broke counts as written": Form((
-        (f"{POSTGRES}_writing.py", "            raise Unknown(self.link.address.told(str(fault)))",
+        (f"{POSTGRES}_writing.py", "            raise UnknownOutcome(self.link.address.told(str(fault)))",
          "            return [(str(it['network']),) for it in json.loads(str(values[0]))]"),), trial(0, 3), LOST),
     "replies aren't compared when the journal is given again": Form((), moment(
         "owners.Owners.test_a_journal_that_was_changed_halts_its_network"), r"AssertionError: .*closed halted",

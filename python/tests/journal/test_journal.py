@@ -8,13 +8,13 @@ import stat
 from pathlib import Path
 
 from nrm.journal.sqlite_tables import begin, using
-from nrm.journal.sqlite_writing import Fenced, Given, Writer
+from nrm.journal.sqlite_writing import Fenced, Given, SqliteWriter
 from server.serves import ONE, ServeTest, rows_in
 
 
 def written(path: Path, *lines: tuple[str, int, str, str], program: str = "p", before: int = 0) -> dict[int, str]:
     """What a server's writing of some lines of the first network tells: desk, its number, line and reply."""
-    writer = Writer(str(path), program)
+    writer = SqliteWriter(str(path), program)
     rows = "".join(f"{number}\t{desk}\t{sequence}\t{line}\t{reply}\n"
                    for number, (desk, sequence, line, reply) in enumerate(lines, before + 1))
     try:
@@ -138,7 +138,7 @@ class Journals(ServeTest):
         written(journal, *LINES)
         with using(str(journal), is_to_write=True) as connection:
             connection.execute("INSERT INTO line VALUES (1, 4, 1, 'X', 1, 0, 'book LOC 9', 'ok 9')")
-        writer = Writer(str(journal), "p")
+        writer = SqliteWriter(str(journal), "p")
         refused = writer.write([Given(1, 1, 3, b"4\tD1\t5\tbook LOC 1\tok 2\n"),
                                 Given(2, 1, 0, b"1\tD1\t1\tbook LOC 1\tok 1\n")])
         self.want_in(refused[1], "a row of 4 to 4 is refused: UNIQUE")
@@ -152,7 +152,7 @@ class Journals(ServeTest):
 
     def test_who_has_an_older_epoch_writes_nothing(self) -> None:
         journal = self.one()
-        first, second = Writer(str(journal), "p"), Writer(str(journal), "p")
+        first, second = SqliteWriter(str(journal), "p"), SqliteWriter(str(journal), "p")
         given = Given(1, 1, 0, b"1\tD1\t1\tbook LOC 1\tok 1\n")
         self.expect(Fenced, lambda: first.write([given]))
         self.same(rows_in(journal))

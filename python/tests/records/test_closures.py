@@ -5,7 +5,8 @@ from __future__ import annotations
 import datetime
 import unittest
 
-from nrm.records.closures import END_OF_DEPARTURE, Reading, closures_between, joined, passed_of_day, reading_of
+from nrm.records.closures import (END_OF_DEPARTURE, AvailabilityReading, closures_between, joined, passed_of_day,
+                                  reading_of)
 from nrm.records.dates import Dates
 from records.made_sales import CLOSURES, HALF, HALF_ROWS, READINGS, TWO, SalePlace
 
@@ -93,12 +94,12 @@ class Moments(unittest.TestCase):
                 ([(-2, True), (-4, False), (-6, True)], [(-5, -3)]),  # in no order
                 ([(-4, True), (-4, False), (-2, True)], [(-float("inf"), -3)]),  # of two at once the closed one counts
                 ([(-4, True)], []), ([(-4, False)], [(-float("inf"), END_OF_DEPARTURE)])):
-            found = closures_between(Reading(DAY, "A", at, is_open) for at, is_open in readings)
+            found = closures_between(AvailabilityReading(DAY, "A", at, is_open) for at, is_open in readings)
             self.assertEqual([(it.first, it.last) for it in found], wanted, readings)
 
     def test_readings_of_two_departures_and_products_stay_apart(self) -> None:
         later = DAY + datetime.timedelta(7)
-        readings = [Reading(day, name, at, is_open) for day, name in ((DAY, "A"), (DAY, "B"), (later, "A"))
+        readings = [AvailabilityReading(day, name, at, is_open) for day, name in ((DAY, "A"), (DAY, "B"), (later, "A"))
                     for at, is_open in ((-4, True), (-2, name == "B"))]
         self.assertEqual([(it.departs, it.product) for it in closures_between(readings)], [(DAY, "A"), (later, "A")])
 

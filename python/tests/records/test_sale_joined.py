@@ -9,7 +9,7 @@ from decimal import Decimal
 from nrm.network import Network
 from nrm.records.export_bookings import Booking
 from nrm.records.export_offer import Offer
-from nrm.records.export_trains import Lines
+from nrm.records.export_trains import TrainLines
 from nrm.records.log_demand import Demand
 from nrm.records.log_requests import Request
 from nrm.records.sale_joined import Stood
@@ -116,7 +116,7 @@ class Bounds(ExportTest):
             some += [(stops, 1) for stops in zip("ABC", "BCD")]  # so that there are all stops
             bookings = [Booking(at, Request(day, 1, f"{' - '.join(stops)} {at}", seats), "", stops, str(at),
                                 Decimal(1), "") for at, (stops, seats) in enumerate(some)]
-            offer = Offer(bookings, Lines(bookings, [list("ABCD")], ["B"]))
+            offer = Offer(bookings, TrainLines(bookings, [list("ABCD")], ["B"]))
             fares = {it: draw.randint(1, 9) for it in offer.products}
             seats = {it: draw.randint(0, 5) for it in offer.legs}
             stood = Stood(bookings, offer, seats, fares, Demand([it.request for it in bookings], [7]))

@@ -11,10 +11,10 @@ from typing import Iterator, Sequence
 
 from harness import EXAMPLES, PlaceTest
 from nrm.network import Network, Product
-from nrm.records.timetable_leaving import Limits, Proposal, proposal, worth
+from nrm.records.timetable_leaving import FileLimits, Proposal, proposal, worth
 from nrm.records.timetable_parts import Part, parts_of
 
-FEW = Limits(legs=3, products=4)
+FEW = FileLimits(legs=3, products=4)
 
 
 def product(name: str, legs: Sequence[str], asked: int) -> Product:
@@ -29,7 +29,7 @@ def line_of(draw: random.Random, count: int) -> tuple[list[str], list[Product]]:
     return legs, [product(f"P{at}-{size}", legs[at:at + size], draw.randint(0, 9)) for at, size in spans]
 
 
-def least_left_out(legs: Sequence[str], sold: Sequence[Product], limits: Limits) -> int:
+def least_left_out(legs: Sequence[str], sold: Sequence[Product], limits: FileLimits) -> int:
     """The least worth that can be left out, by trying every set of products that may be kept."""
     least = sum(map(worth, sold))
     for chosen in itertools.product((True, False), repeat=len(sold)):
@@ -39,13 +39,13 @@ def least_left_out(legs: Sequence[str], sold: Sequence[Product], limits: Limits)
     return least
 
 
-def fits(kept: Sequence[Product], legs: Sequence[str], limits: Limits) -> bool:
+def fits(kept: Sequence[Product], legs: Sequence[str], limits: FileLimits) -> bool:
     """Whether each part of what is kept is within the limits."""
     return all(len(it.legs) <= limits.legs and len(it.products) <= limits.products
                for it in parts_of(legs, {it.name: it.legs for it in kept}))
 
 
-def proposed(legs: Sequence[str], sold: Sequence[Product], limits: Limits) -> Proposal:
+def proposed(legs: Sequence[str], sold: Sequence[Product], limits: FileLimits) -> Proposal:
     """What is proposed for a part with these legs and products."""
     return proposal(Part(list(legs), [it.name for it in sold]), {it.name: it for it in sold}, limits)
 

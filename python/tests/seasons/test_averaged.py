@@ -12,7 +12,7 @@ from nrm.replies import Hindsight, answer_of, plan_of
 from nrm.seasons.averaged_playing import NEW_PRICES, NOT_ASKED, periods_of, replies_by_prices
 from nrm.seasons.averaged_prices import AVERAGED, Averaged, mean_of, to_come
 from nrm.seasons.drawing import DrawnSeason, Settings
-from nrm.seasons.playing import Clock, Player
+from nrm.seasons.playing import Player, ProgramTime
 from seasons.clusters import LOG, SECONDS, SimulateTest, needs_dask
 
 # two seats; in history 1 three dear requests come, in history 2 none, so the mean of both, one and a half, fits
@@ -71,7 +71,8 @@ class Averages(PlaceTest):
             return {"A": Fraction(91 if period == 1 else 90)}
         lines = ["book CHEAP 1", "book DEAR 1", "reoptimise 2", "book CHEAP 1", "book DEAR 1", "hindsight"]
         self.assertEqual(periods_of(DrawnSeason(None, lines)), [lines[:2], lines[3:5]])
-        replies = replies_by_prices(self.network, DrawnSeason(None, lines), self.program, path, prices_at, Clock())
+        season = DrawnSeason(None, lines)
+        replies = replies_by_prices(self.network, season, self.program, path, prices_at, ProgramTime())
         self.assertEqual(replies[:-1], [NOT_ASKED, b"ok 1", NEW_PRICES, b"ok 2", b"no A"])
         last = answer_of(replies[-1])
         self.assertTrue(isinstance(last, Hindsight) and last.revenue == 290, last)

@@ -17,7 +17,7 @@ from nrm.network import Network, Row, rows_of
 from nrm.replies import MODES
 from nrm.seasons.coupled import season_of
 from nrm.seasons.drawing import DEMANDS, DrawnSeason, Settings, drawn_season, identity
-from nrm.seasons.playing import Clock, played
+from nrm.seasons.playing import ProgramTime, played
 from seasons.clusters import HUB, LOG, SEASON, by_one_process
 
 
@@ -93,7 +93,7 @@ class Played(PlaceTest):
         for number in range(6):
             season = drawn_season(network, settings, random.Random(number))
             for mode in MODES:
-                found = played(network, season, self.program, mode, LOG, Clock())
+                found = played(network, season, self.program, mode, LOG, ProgramTime())
                 session, numbers = reference.Session(reference.network_of(bytes_in(LOG)), mode), dict[int, int]()
                 for at, line in enumerate(season.lines):
                     reply = session.reply(line.encode()).decode()

@@ -16,7 +16,7 @@ from nrm import Stop
 from nrm.network import Network, rows_of
 from nrm.seasons.overbooking_rules import Seats
 from nrm.seasons.search_authorised import Search, rows_with, units_of
-from nrm.seasons.search_fields import Earned, Field, Line, Play, Tries
+from nrm.seasons.search_fields import Earned, Field, Play, ProgressLine, Tries
 from seasons.clusters import LOG, SECONDS, needs_dask, wait_for
 
 LEGS = (b"periods,1,1\nleg,A-1,10\nleg,A-2,10\nleg,B,20\nleg,IDLE,5\n"
@@ -58,7 +58,7 @@ class Searches(PlaceTest):
     def searched(self, play: Play, together: Sequence[Sequence[str]] = (), sweeps: int = 9,
                  path: str | None = None) -> Seats:
         field = Field(play, Tries(path, {"seed": 1}), range(5))
-        search = Search(self.network, units_of(self.network, together), field, Line(self.told.append))
+        search = Search(self.network, units_of(self.network, together), field, ProgressLine(self.told.append))
         return search.from_seats(self.begin, sweeps)
 
     def test_it_finds_the_top_of_a_hill_and_plays_nothing_twice(self) -> None:
@@ -127,7 +127,7 @@ class Progress(unittest.TestCase):
         for stream, wanted in ((Terminal(), "\rone try, 0 s\x1b[K\rtwo tries, 0 s\x1b[K\r\x1b[K"), (io.StringIO(), "")):
             told: list[str] = []
             with contextlib.redirect_stderr(stream):
-                line = Line(told.append)
+                line = ProgressLine(told.append)
                 line.say("one try")
                 line.say("two tries")
                 line.end("a sweep")

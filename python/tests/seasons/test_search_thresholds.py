@@ -6,7 +6,7 @@ from typing import Callable
 
 from harness import PlaceTest
 from nrm.network import Network, rows_of
-from nrm.seasons.search_fields import Earned, Field, Line, Tries
+from nrm.seasons.search_fields import Earned, Field, ProgressLine, Tries
 from nrm.seasons.search_thresholds import ThresholdSearch, proposed, rows_of_thresholds
 from seasons.clusters import LOG, SECONDS, needs_dask
 
@@ -30,7 +30,7 @@ class Searches(PlaceTest):
         for wanted, rule in (({"A": (70, 60), "B": (60,)}, "one"), ({"A": (60,), "B": (70, 60)}, "two"),
                              ({"A": (60,), "B": ()}, "the file"), ({"A": (9,), "B": (9,)}, "the file")):
             field = Field(wanting(wanted), Tries(None, {}), range(3))
-            search = ThresholdSearch(network, RULES, field, Line(lambda _: None))
+            search = ThresholdSearch(network, RULES, field, ProgressLine(lambda _: None))
             self.assertEqual(search.best_rule(), rule)
             found = search.from_rule(rule, 3)
             self.assertEqual(found, wanted if (9,) not in wanted.values() else RULES[rule])

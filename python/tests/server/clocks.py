@@ -8,9 +8,9 @@ from typing import Mapping, Sequence
 from nrm.journal.network_times import Times, set_times
 from nrm.journal.networks import open_network
 from nrm.journal.sqlite_tables import begin, opened, using
-from nrm.journal.sqlite_writing import Writer
+from nrm.journal.sqlite_writing import SqliteWriter
 from nrm.journal.stores import Opened
-from nrm.server.clients import Client, Limits
+from nrm.server.clients import Client, ClientLimits
 from nrm.server.clock import Clock
 from nrm.server.counters import Counters
 from nrm.server.event_log import shown, text_of
@@ -36,7 +36,8 @@ class Hall:
     """In the place of a server."""
 
     def __init__(self, path: Path) -> None:
-        self.reader, self.writer, self.loop, self.limits = opened(str(path)), Writer(str(path), "p"), Loop(), Limits()
+        self.reader, self.writer = opened(str(path)), SqliteWriter(str(path), "p")
+        self.loop, self.limits = Loop(), ClientLimits()
         self.clients: set[Client] = set()
         self.in_writing: list[object] = []
         self.counters, self.events, self.stops = Counters(), Events(), False

@@ -4,7 +4,7 @@ from __future__ import annotations
 from typing import Callable
 
 from nrm.server.access import Access, Right, hash_of
-from nrm.server.clients import Client, Limits
+from nrm.server.clients import Client, ClientLimits
 from nrm.server.counters import Counters
 from nrm.server.tokens import Tokens
 
@@ -40,7 +40,7 @@ class House:
     """A hall in the place of one, which takes nobody to a network."""
 
     def __init__(self) -> None:
-        self.loop, self.limits, self.counters = Clock(), Limits(slow=5, idle=60), Counters()
+        self.loop, self.limits, self.counters = Clock(), ClientLimits(slow=5, idle=60), Counters()
         self.tokens = Tokens(lambda *_, **__: None, Access({HIS.hash: HIS}))
         self.entered: list[tuple[Client, str | None, bytes]] = []
         self.left: list[Client] = []

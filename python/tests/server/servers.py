@@ -10,16 +10,18 @@ from typing import Callable, TypeVar
 
 from harness import EXAMPLES, PlaceTest
 from nrm.desk import HAS_MORE
-from nrm.server.status_text import Clients, Commits, Network, Programs, Server, Status
+from nrm.server.status_text import ClientStatus, CommitStatus, NetworkStatus, ProgramStatus, ServerStatus, Status
 
 HUB = str(EXAMPLES / "hub" / "network.csv")
 TESTS = Path(__file__).resolve().parents[1]
 Error = TypeVar("Error", bound=BaseException)
 STATUS = Status(
-    Server("2.1.0", "ab12", "2026-12-01T09:30:00.123Z", 3, 4096, 5, False),
-    Clients(12, 1000, 512, 7, 2, 3456, 7890), {"idle": 3, "program-137": 4}, Commits(812, 1.93, 0.021, 9000, 3, 1),
-    ((0.001, 400), (0.5, 811), (float("inf"), 812)), Programs(3, 5, 2),
-    (Network("hub-0612", "bid", "answers", 4, 812, False, 0), Network("old", "first", "rests", 0, 7, True, 9)))
+    ServerStatus("2.1.0", "ab12", "2026-12-01T09:30:00.123Z", 3, 4096, 5, False),
+    ClientStatus(12, 1000, 512, 7, 2, 3456, 7890), {"idle": 3, "program-137": 4},
+    CommitStatus(812, 1.93, 0.021, 9000, 3, 1),
+    ((0.001, 400), (0.5, 811), (float("inf"), 812)), ProgramStatus(3, 5, 2),
+    (NetworkStatus("hub-0612", "bid", "answers", 4, 812, False, 0),
+     NetworkStatus("old", "first", "rests", 0, 7, True, 9)))
 
 
 def child_of(process: int) -> int:

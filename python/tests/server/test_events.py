@@ -10,7 +10,7 @@ from typing import Callable
 from unittest import mock
 
 from harness import SOURCES, TOP
-from nrm.server.event_log import LEVELS, LEVEL_OF, Events, Log, Output
+from nrm.server.event_log import LEVELS, LEVEL_OF, Events, LogForm, LogOutput
 
 MOMENT = 1_796_117_400_123_456_789  # nanoseconds since 1970 began
 FRONT = "time=2026-12-01T09:30:00.123Z level={} tool=nrm-tools-serve event="
@@ -45,7 +45,7 @@ class Written(unittest.TestCase):
         return self.can_be_written
 
     def events(self, form: str = "text", level: str = "debug") -> Events:
-        return Events(self.clock, Log(form, level), self.put, lambda: MOMENT)
+        return Events(self.clock, LogForm(form, level), self.put, lambda: MOMENT)
 
     def told(self) -> list[str]:
         """What was told since this was asked last, without what stands before the event."""
@@ -166,7 +166,7 @@ class StandardError(unittest.TestCase):
         stream = os.fdopen(file, "w")
         self.addCleanup(stream.close)
         with mock.patch("sys.stderr", stream):
-            return Output().put
+            return LogOutput().put
 
     def test_nobody_is_waited_for(self) -> None:
         """A pipe that is full takes nothing, until somebody reads; one that nobody reads any more takes nothing."""
@@ -184,10 +184,10 @@ class StandardError(unittest.TestCase):
     def test_there_may_be_none(self) -> None:
         """Then its number is that of another file, which gets nothing."""
         with mock.patch("sys.stderr", None):
-            self.assertFalse(Output().put("x\n"))
+            self.assertFalse(LogOutput().put("x\n"))
         with open(os.devnull, "w") as closed:
             pass
         with mock.patch("sys.stderr", closed):
-            self.assertFalse(Output().put("x\n"))
+            self.assertFalse(LogOutput().put("x\n"))
         full = os.open("/dev/full", os.O_WRONLY)
         self.assertFalse(self.put_to(full)("x\n"), "a full disk")

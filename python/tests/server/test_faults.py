@@ -13,7 +13,7 @@ from nrm.server.counters import Counters
 from nrm.server.status_text import Status, ask_status
 from nrm.web.followed_journal import Following
 from nrm.web.metrics import what_is_wrong
-from nrm.web.recent_status import Asked
+from nrm.web.recent_status import RecentStatus
 from server.faults import clock_off, failing, library
 from server.servers import answers
 from server.serves import ONE, Serve, ServeTest, all_told, talk
@@ -34,7 +34,7 @@ class Faults(ServeTest):
         journal = self.journal(file=ONE.encode())
         for kind, why in ("write", "database or disk is full"), ("fsync", "disk I/O error"):
             with self.serve(journal, variables=failing(library(self.folder), journal, kind, 12)) as serve:
-                asked = Asked(lambda: ask_status(serve.path, SECONDS), every=0)
+                asked = RecentStatus(lambda: ask_status(serve.path, SECONDS), every=0)
                 following = Following(str(journal))
                 self.assertEqual([*what_is_wrong(following, asked.status())], [])
                 self.assertEqual(self.status(serve).commits.failed, 0)

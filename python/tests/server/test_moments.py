@@ -10,7 +10,7 @@ from pathlib import Path
 
 import preload  # of the folder tests at the top
 from harness import SECONDS, wait_for
-from nrm.journal.sqlite_writing import Given, Writer
+from nrm.journal.sqlite_writing import Given, SqliteWriter
 from nrm.program import Program
 from nrm.server.status_text import ask_status
 from server.faults import failing, library
@@ -88,7 +88,7 @@ class Moments(ServeTest):
     def write(self, journal: Path, program: Program, before: int, count: int) -> None:
         """Writes rows into the journal of a network as another server does, behind so many."""
         rows = "".join(f"{at}\tD1\t{at}\tbook X 1\tunknown\n" for at in range(before + 1, before + count + 1))
-        writer = Writer(str(journal), program.checksum())
+        writer = SqliteWriter(str(journal), program.checksum())
         self.assertEqual(writer.write([Given(1, 1, before, rows.encode())]), {})
         writer.close()
 

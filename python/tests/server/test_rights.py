@@ -11,7 +11,7 @@ from harness import SECONDS, wait_for
 from nrm.desk import Denied, Desk
 from nrm.journal.networks import end_network, freeze_network, network_in, open_network
 from nrm.journal.sqlite_tables import using
-from nrm.journal.sqlite_writing import Writer
+from nrm.journal.sqlite_writing import SqliteWriter
 from nrm.journal.stores import Given
 from nrm.server.status_text import ask_status
 from server.servers import answers
@@ -147,7 +147,7 @@ class Ending(ServeTest):
     def test_the_writing_lets_no_row_through_that_knows_nothing_of_it(self) -> None:
         """Those of other networks in the same commit are written, and what was ended isn't halted."""
         journal = self.journal("one", "two", file=ONE.encode())
-        writer = Writer(str(journal), "p")
+        writer = SqliteWriter(str(journal), "p")
         self.addCleanup(writer.close)
         given = [Given(it, 1, 0, ROW % (1, 1, 1), writer.epoch) for it in (1, 2)]
         self.assertTrue(all(map(writer.is_still, given)))

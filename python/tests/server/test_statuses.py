@@ -11,8 +11,8 @@ from nrm.journal.sqlite_store import Sqlite
 from nrm.journal.sqlite_tables import begin, opened, using
 from nrm.server.counters import Counters
 from nrm.server.sole_owner import Sole
-from nrm.server.status_now import Now, Teller
-from nrm.server.status_text import Network, status_of
+from nrm.server.status_now import Now, StatusWriter
+from nrm.server.status_text import NetworkStatus, status_of
 
 
 class Statuses(PlaceTest):
@@ -24,7 +24,7 @@ class Statuses(PlaceTest):
         self.reader = self.enter(contextlib.closing(opened(self.journal)))
         self.counters, self.sessions = Counters(), {}
         owning = Sole(mock.Mock(), Sqlite(self.journal), self.reader, mock.Mock())
-        self.teller = Teller(owning, "ab12", 7, 50, self.counters, self.sessions, lambda: self.now)
+        self.teller = StatusWriter(owning, "ab12", 7, 50, self.counters, self.sessions, lambda: self.now)
 
     def enter(self, manager: contextlib.AbstractContextManager) -> object:
         made = manager.__enter__()
@@ -40,7 +40,7 @@ class Statuses(PlaceTest):
         return SimpleNamespace(**{"state": state, "process": None, "lines": 9, "places": {0: 1, 3: 1}, "coming": [1],
                                   "memory": 4, "network": SimpleNamespace(halted=None), **more})
 
-    def networks(self) -> list[Network]:
+    def networks(self) -> list[NetworkStatus]:
         return [*self.teller.status(Now(0, 0, 0, False)).networks]
 
     def test_what_is_counted_is_told(self) -> None:
@@ -56,9 +56,9 @@ class Statuses(PlaceTest):
         """The lines of a network whose program runs are those that the program has, which are more by then."""
         for state, word in enumerate(("rests", "waits", "begins", "answers", "ends")):
             self.sessions["one"] = self.session(state)
-            self.assertEqual(self.networks(), [Network("one", "bid", word, 3, 0, False, 4)])
+            self.assertEqual(self.networks(), [NetworkStatus("one", "bid", word, 3, 0, False, 4)])
         self.sessions["one"] = self.session(3, process=1)
-        self.assertEqual(self.networks(), [Network("one", "bid", "answers", 3, 9, False, 4)])
+        self.assertEqual(self.networks(), [NetworkStatus("one", "bid", "answers", 3, 9, False, 4)])
 
     def test_a_network_of_another_program_has_a_word_too(self) -> None:
         """Whether somebody came to it or not, unless it has ended, or a program runs."""
@@ -83,6 +83,6 @@ class Statuses(PlaceTest):
         with mock.patch("nrm.server.sole_owner.networks_in", side_effect=AssertionError):
             self.now += 0.9
             self.sessions["one"].network.halted = "row 2"
-            self.assertEqual(self.networks(), [Network("one", "bid", "rests", 3, 0, True, 4)])
+            self.assertEqual(self.networks(), [NetworkStatus("one", "bid", "rests", 3, 0, True, 4)])
         self.now += 0.2
         self.assertEqual([it.network for it in self.networks()], ["one", "two"])

@@ -14,7 +14,7 @@ from harness import SECONDS, meanwhile, wait_for
 from nrm import Stop
 from nrm.desk import Desk, Ended, Late, Sold, Strange
 from nrm.desks_frames import WINDOW
-from nrm.server.clients import Client, Limits
+from nrm.server.clients import Client, ClientLimits
 from nrm.server.loop import READ
 from nrm.server.status_text import ask_status
 from nrm.server.tls import RECORD, context_of
@@ -276,7 +276,8 @@ class Secured(GuardedTest):
                     self.assertEqual(all_told(it), b"")
             with self.by_tls(serve):
                 pass
-        self.assertEqual([Limits(clients=it).clients_of_ports() for it in (1, 2, 9, 20, 1000)], [1, 1, 8, 18, 900])
+        of_ports = [ClientLimits(clients=it).clients_of_ports() for it in (1, 2, 9, 20, 1000)]
+        self.assertEqual(of_ports, [1, 1, 8, 18, 900])
 
     def test_one_too_many_is_let_go(self) -> None:
         with self.secured(self.journal(file=ONE.encode()), "--clients", "1") as serve:

@@ -11,7 +11,7 @@ from pathlib import Path
 
 from harness import SECONDS, wait_for
 from nrm import __version__
-from nrm.server.status_text import Network, Status, ask_status, status_of
+from nrm.server.status_text import NetworkStatus, Status, ask_status, status_of
 from server.servers import answers
 from server.serves import LISTENS, ONE, Serve, ServeTest, all_told, talk
 
@@ -33,8 +33,8 @@ class Told(ServeTest):
             self.assertEqual(all_told(client), b"closed elsewhere\n")
             self.assertEqual(talk(serve, b"desk three D1 1\n"), b"closed network\n")
             told = self.status(serve)
-            self.assertEqual(told.networks, (Network("one", "first", "answers", 0, 2, False, 0),
-                                             Network("two", "first", "rests", 0, 0, False, 0)))
+            self.assertEqual(told.networks, (NetworkStatus("one", "first", "answers", 0, 2, False, 0),
+                                             NetworkStatus("two", "first", "rests", 0, 0, False, 0)))
             self.assertEqual((told.clients.now, told.clients.most, told.clients.ever, told.clients.turned_away),
                              (1, 1000, 4, 0))
             self.assertEqual((told.clients.bytes_in, told.clients.bytes_out),

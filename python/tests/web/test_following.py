@@ -13,7 +13,7 @@ from nrm.journal.sqlite_tables import using
 from nrm.network import Network, rows_of
 from nrm.replies import Hindsight, Leg, answer_of, replies_of
 from nrm.web.followed_journal import Following
-from nrm.web.network_counts import Counts, Row
+from nrm.web.network_counts import Counts, JournalRow
 from server.servers import HUB
 from server.serves import ONE
 from web.webs import WebTest
@@ -165,8 +165,8 @@ class FollowingTest(WebTest):
         counts = Counts(Network.of(rows_of(ONE.encode())))
         at = 1_800_000_000_000 // 60_000 * 60_000
         for number, minute in enumerate((0, 0, 1, 59, 59, 59, 60), 1):
-            counts.take(Row(number, at + minute * 60_000 + 59_999, "D1", "book LOC 999", "no AB"))
-        counts.take(Row(8, at, "D1", "cancel 1", "unknown"))
+            counts.take(JournalRow(number, at + minute * 60_000 + 59_999, "D1", "book LOC 999", "no AB"))
+        counts.take(JournalRow(8, at, "D1", "cancel 1", "unknown"))
         minutes = counts.seen().a_minute(at + 59 * 60_000)
         self.assertEqual((len(minutes), minutes[0], minutes[1], minutes[-1], sum(minutes)), (60, 2, 1, 3, 6))
         self.assertEqual(counts.seen().a_minute(at + 60 * 60_000)[-2:], [3, 1])

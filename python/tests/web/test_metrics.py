@@ -10,7 +10,7 @@ from typing import Mapping
 from harness import TOP, needs, wait_for
 from nrm.journal.sqlite_tables import using
 from nrm.server.status_text import Status, status_of
-from nrm.web.recent_status import Asked
+from nrm.web.recent_status import RecentStatus
 from server.serves import ONE
 from web.webs import STATUS, WebTest, until_read
 
@@ -62,7 +62,7 @@ class HealthTest(WebTest):
         def ask() -> Status:
             count[0] += 1
             return status_of(STATUS)
-        asked = Asked(ask)
+        asked = RecentStatus(ask)
         asked.status()
         asked.status()
         self.assertEqual(count, [1])

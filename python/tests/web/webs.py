@@ -14,14 +14,14 @@ from typing import Callable, Iterator, Mapping, NamedTuple, Sequence
 
 from harness import SECONDS, meanwhile, wait_for
 from nrm.journal.sqlite_tables import using
-from nrm.journal.sqlite_writing import Given, Writer
-from nrm.server.status_text import Network
+from nrm.journal.sqlite_writing import Given, SqliteWriter
+from nrm.server.status_text import NetworkStatus
 from nrm.web.http_server import Listening, Site
-from nrm.web.routes import Settings, Web
+from nrm.web.routes import Web, WebSettings
 from server import servers
 from server.serves import ServeTest
 
-STATUS = replace(servers.STATUS, networks=(Network("hub", "bid", "answers", 4, 812, False, 6),)).text()
+STATUS = replace(servers.STATUS, networks=(NetworkStatus("hub", "bid", "answers", 4, 812, False, 6),)).text()
 
 
 class Told(NamedTuple):
@@ -79,7 +79,8 @@ class WebTest(ServeTest):
     def web(self, journal: Path | str, place: object = "none", listening: Mapping[str, object] | None = None,
             **settings: object) -> Iterator[Running]:
         """A web of a journal and of the server at a socket, with all that can be on."""
-        made = Web(Settings(str(journal), str(place), **{"has_page": True, "has_door": True, "seconds": 5, **settings}))
+        all_settings = {"has_page": True, "has_door": True, "seconds": 5, **settings}
+        made = Web(WebSettings(str(journal), str(place), **all_settings))
         is_over = threading.Event()
         with Site(Listening("127.0.0.1:0", **(listening or {})), made.answer) as site:
             threads = [meanwhile(made.following.follow, is_over, made.tidy), meanwhile(site.serve_forever, 0.02)]
@@ -98,7 +99,7 @@ class WebTest(ServeTest):
         with using(str(journal)) as connection:
             [before] = connection.execute("SELECT lines FROM head WHERE network = ?", [network]).fetchone()
         rows = "".join(f"{it}\t{desk}\t{it}\t{line}\t{reply}\n" for it, (line, reply) in enumerate(lines, before + 1))
-        writer = Writer(str(journal), "program")
+        writer = SqliteWriter(str(journal), "program")
         self.assertEqual(writer.write([Given(network, 0, before, rows.encode())]), {})
         writer.close()
 

@@ -19,7 +19,7 @@ MEANING = "docs/auditor/why.md says what each line means."
 
 
 @dataclass(frozen=True)
-class Told:
+class AccountPage:
     """What a page says: the account in a sentence, where the line stands, what is to be noted of it, the account with
     its steps, commands, and what must be believed."""
     sentence: str
@@ -59,7 +59,7 @@ def steps(why: Why) -> Iterator[str]:
         yield f"{number}. {'holds' if it.holds else 'FAILS'}: {it.text}"
 
 
-def text(told: Told) -> str:
+def text(told: AccountPage) -> str:
     """The page as text."""
     parts = [("The account:", told.why.account.text.splitlines()), (HOW, steps(told.why)),
              (COMMANDS, map(shown, told.commands)), (BELIEVED, (f"- {shown(it)}" for it in told.believed))]
@@ -69,7 +69,7 @@ def text(told: Told) -> str:
     return "\n".join([*lines, verdict(told.why), ""])
 
 
-def html(told: Told) -> str:
+def html(told: AccountPage) -> str:
     """The page as HTML."""
     page = Page(told.first)
     for it in told.below:

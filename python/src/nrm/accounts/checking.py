@@ -18,8 +18,8 @@ from pathlib import Path
 from typing import Iterator, Mapping, Sequence
 
 from nrm import Stop, bytes_in
-from nrm.accounts.played_session import Course
-from nrm.accounts.reading import Account, Optimisation, Request, account_of
+from nrm.accounts.played_session import PlayedLine
+from nrm.accounts.reading import Account, Optimisation, RequestAccount, account_of
 from nrm.accounts.rule_steps import Step, steps_of
 from nrm.network import Network, text_of
 from nrm.program import TOP, Program, built_in, ended, is_checkout, is_program, program_behind
@@ -35,7 +35,7 @@ AUDIT = Path(__file__).resolve().parents[1] / "audit.py"  # the auditor's script
 class Why:
     """An account, the session up to its line, and the steps of its rule."""
     account: Account
-    course: Course
+    course: PlayedLine
     steps: tuple[Step, ...]
 
     @property
@@ -45,7 +45,7 @@ class Why:
 
 
 @dataclass(frozen=True)
-class Asked:
+class LineOfStream:
     """Where a line stands: the network file, the mode, the file of the stream, and the number from 1."""
     network: str
     mode: str
@@ -62,7 +62,7 @@ class Asked:
                        "three words, JOURNAL NETWORK NUMBER")
         account = self.account(words)
         try:
-            course = Course.played(self.network, self.mode, self.stream, self.number, program, replies)
+            course = PlayedLine.played(self.network, self.mode, self.stream, self.number, program, replies)
         except (LookupError, ValueError) as what:
             raise Stop(f"the replies to {self.stream} don't fit its lines: {what}; is that another program?")
         try:
@@ -116,12 +116,12 @@ def found(words: Sequence[str] | None, program: Program) -> tuple[str, ...]:
 # The certificate of the plan that decided
 
 
-def certificate_steps(account: Account, course: Course, program: Program) -> Iterator[Step]:
+def certificate_steps(account: Account, course: PlayedLine, program: Program) -> Iterator[Step]:
     """The certificate of the plan that decided, or that the line made, by `nrm check` and by the auditor's script: that
     of the network with the seats left when it was made and the demand from its period on."""
     if course.mode == "first":
         return
-    if isinstance(account.reasons, Request):
+    if isinstance(account.reasons, RequestAccount):
         plan, planned = course.plan, course.planned
     elif isinstance(account.reasons, Optimisation) and course.optimised():
         plan, planned = course.plan_behind, course.plan_made()

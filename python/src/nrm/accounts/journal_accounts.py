@@ -12,8 +12,8 @@ from pathlib import Path
 from typing import Sequence
 
 from nrm import Stop
-from nrm.accounts.checking import Asked, Why
-from nrm.journal.answered_lines import Line, ended_at, given_back_by, lay, line_in, sold_by
+from nrm.accounts.checking import LineOfStream, Why
+from nrm.journal.answered_lines import AnsweredLine, ended_at, given_back_by, lay, line_in, sold_by
 from nrm.journal.choosing_store import shown, using
 from nrm.journal.networks import file_of, known
 from nrm.journal.stores import NoJournal, Opened, Tables
@@ -23,7 +23,7 @@ ANSWERS = "nrm_desks"  # the program whose checksum a journal has
 
 
 @dataclass(frozen=True)
-class Programs:
+class ProgramChecksums:
     """The checksums of the programs: of the one that answers by the journal, of the one of its name that is here if one
     is, of that which wrote the account, and of that which played the session again."""
     answered: str
@@ -38,7 +38,7 @@ class Programs:
 
 
 @dataclass(frozen=True)
-class Kept:
+class JournalRecord:
     """What a journal has of a line beside its account: the network, since when it has ended, the checksum of its file,
     the line, the one that sold the booking which it cancels, the one that cancelled the booking which it sold, or which
     it couldn't cancel any more; and the programs."""
@@ -46,14 +46,14 @@ class Kept:
     network: Opened
     ended: str | None
     file: str
-    line: Line
-    sale: Line | None
-    given_back: Line | None
-    programs: Programs
+    line: AnsweredLine
+    sale: AnsweredLine | None
+    given_back: AnsweredLine | None
+    programs: ProgramChecksums
 
 
 @dataclass(frozen=True)
-class AskedOfJournal:
+class LineOfJournal:
     """Where a line stands: the journal, the name of the network, and the line's number or that of the booking that it
     sold."""
     journal: str
@@ -61,7 +61,7 @@ class AskedOfJournal:
     number: int | None
     booking: int | None = None
 
-    def why(self, words: Sequence[str], program: Program) -> tuple[Kept, Why]:
+    def why(self, words: Sequence[str], program: Program) -> tuple[JournalRecord, Why]:
         """What the journal has of the line, and its account by the program of some words, beside a session of `nrm`."""
         try:
             with using(self.journal) as connection, tempfile.TemporaryDirectory() as folder:
@@ -79,25 +79,26 @@ class AskedOfJournal:
         assert self.booking is not None
         return sold_by(connection, network, self.booking)
 
-    def answered(self, connection: Tables, network: Opened, line: Line, folder: Path, words: Sequence[str],
-                 program: Program) -> tuple[Kept, Why]:
+    def answered(self, connection: Tables, network: Opened, line: AnsweredLine, folder: Path, words: Sequence[str],
+                 program: Program) -> tuple[JournalRecord, Why]:
         """The account of a line, made in a folder."""
         file, stream, replies = (folder / it for it in ("network.csv", "stream", "replies"))
         file.write_bytes(file_of(connection, network.number))
         lay(connection, network, line.number, stream, replies)
         try:
-            why = Asked(str(file), network.mode, str(stream), line.number).why(words, program, str(replies))
+            why = LineOfStream(str(file), network.mode, str(stream), line.number).why(words, program, str(replies))
         except Stop as stop:
             raise Stop(f"{network.name} of {shown(self.journal)}: {str(stop).replace(f'{folder}/', '')}", stop.status)
-        programs = Programs(network.program, checksum_here(words), Program(tuple(words)).checksum(), program.checksum())
+        programs = ProgramChecksums(network.program, checksum_here(words), Program(tuple(words)).checksum(),
+                                    program.checksum())
         sale = why.course.sales.get(numbered(line.line, "cancel "))
-        return Kept(shown(self.journal), network, ended_at(connection, network),
-                    hashlib.sha256(file.read_bytes()).hexdigest(), line,
-                    line_in(connection, network, sale.line) if sale else None,
-                    cancelled_by(connection, network, line), programs), why
+        return JournalRecord(shown(self.journal), network, ended_at(connection, network),
+                             hashlib.sha256(file.read_bytes()).hexdigest(), line,
+                             line_in(connection, network, sale.line) if sale else None,
+                             cancelled_by(connection, network, line), programs), why
 
 
-def cancelled_by(connection: Tables, network: Opened, line: Line) -> Line | None:
+def cancelled_by(connection: Tables, network: Opened, line: AnsweredLine) -> AnsweredLine | None:
     """The line that cancelled the booking which a line sold, or before it the one which it wanted to cancel."""
     is_too_late = line.reply == "unknown"
     booking = numbered(line.line, "cancel ") if is_too_late else numbered(line.reply, "ok ")

@@ -4,13 +4,13 @@ from __future__ import annotations
 import shlex
 from typing import Iterator
 
-from nrm.accounts.account_page import Told
-from nrm.accounts.checking import Asked, Why
-from nrm.accounts.journal_accounts import Kept, Programs
+from nrm.accounts.account_page import AccountPage
+from nrm.accounts.checking import LineOfStream, Why
+from nrm.accounts.journal_accounts import JournalRecord, ProgramChecksums
 from nrm.accounts.played_session import Planned
-from nrm.accounts.reading import Request
+from nrm.accounts.reading import RequestAccount
 from nrm.accounts.sentences import sentence_of
-from nrm.journal.answered_lines import Line
+from nrm.journal.answered_lines import AnsweredLine
 from nrm.journal.choosing_store import is_file
 
 FOLDER = "by-hand"  # where the commands of a page write files
@@ -21,14 +21,14 @@ BY_HAND = ("Of the programs nothing, where each step is done by hand: then the a
 # A plain stream
 
 
-def of_stream(asked: Asked, why: Why) -> Told:
+def of_stream(asked: LineOfStream, why: Why) -> AccountPage:
     """The page of a line of a stream."""
     where = (f"Line {asked.number} of {asked.stream}, on {asked.network} under {asked.mode}.",)
     file, stream = map(shlex.quote, (asked.network, asked.stream))
     again = [f"head -n {asked.number} {stream} | nrm run {asked.mode} {file}", *commands(file, asked.mode, stream, why)]
     makes = [f"mkdir -p {FOLDER}"] if any(f"{FOLDER}/" in it for it in again) else []
     believed = (f"That {asked.network} and {asked.stream} are the true ones.", BY_HAND)
-    return Told(sentence_of(why.account, why.course), where, (), why, (*makes, *again), believed)
+    return AccountPage(sentence_of(why.account, why.course), where, (), why, (*makes, *again), believed)
 
 
 def commands(file: str, mode: str, stream: str, why: Why) -> Iterator[str]:
@@ -53,7 +53,7 @@ def commands(file: str, mode: str, stream: str, why: Why) -> Iterator[str]:
 def planned_for(why: Why) -> Planned | None:
     """The plan that decided, or that the line made, if a linear program was solved for it."""
     course = why.course
-    if course.mode != "first" and isinstance(why.account.reasons, Request):
+    if course.mode != "first" and isinstance(why.account.reasons, RequestAccount):
         return course.planned
     return course.plan_made() if course.optimised() else None
 
@@ -71,29 +71,29 @@ def later_network(file: str, mode: str, stream: str, planned: Planned, made: str
 # A journal
 
 
-def of_journal(kept: Kept, why: Why) -> Told:
+def of_journal(kept: JournalRecord, why: Why) -> AccountPage:
     """The page of a line of a journal."""
     network = kept.network
     sale = f" ({by_whom(kept.sale)})" if kept.sale else ""
     where = (f"Line {kept.line.number} of {network.name} in {kept.journal}, under {network.mode}.", asked_by(kept.line),
              *since(kept))
-    return Told(sentence_of(why.account, why.course, sale), where, tuple(notes(kept)), why,
-                (*laying(kept), *commands(f"{FOLDER}/network.csv", network.mode, f"{FOLDER}/stream", why)),
-                tuple(believed(kept)))
+    return AccountPage(sentence_of(why.account, why.course, sale), where, tuple(notes(kept)), why,
+                       (*laying(kept), *commands(f"{FOLDER}/network.csv", network.mode, f"{FOLDER}/stream", why)),
+                       tuple(believed(kept)))
 
 
-def asked_by(line: Line) -> str:
+def asked_by(line: AnsweredLine) -> str:
     """Who asked a line, what the journal has as the reply, and when that was written."""
     return (f"Desk {line.desk} asked for it, as its line {line.sequence}. The journal has the reply: {line.reply}, "
             f"written at {line.at} by the machine's clock.")
 
 
-def by_whom(line: Line) -> str:
+def by_whom(line: AnsweredLine) -> str:
     """Who asked a line, and when, in a few words."""
     return f"desk {line.desk}, {line.at}"
 
 
-def since(kept: Kept) -> Iterator[str]:
+def since(kept: JournalRecord) -> Iterator[str]:
     """The cancellation of the booking that the line sold, or wanted to cancel, and the end of the network."""
     if kept.given_back:
         yield f"The booking was cancelled by line {kept.given_back.number} ({by_whom(kept.given_back)})."
@@ -101,7 +101,7 @@ def since(kept: Kept) -> Iterator[str]:
         yield f"{kept.network.name} has ended, at {kept.ended}."
 
 
-def notes(kept: Kept) -> Iterator[str]:
+def notes(kept: JournalRecord) -> Iterator[str]:
     """What is to be known of the network and of the programs before the account is relied on."""
     network = kept.network
     if network.halted:
@@ -111,7 +111,7 @@ def notes(kept: Kept) -> Iterator[str]:
                "the account by the rules of the version that is here.")
 
 
-def laying(kept: Kept) -> Iterator[str]:
+def laying(kept: JournalRecord) -> Iterator[str]:
     """What has the network file, the lines and the replies written out of a journal, and the replies compared."""
     journal, name = shlex.quote(kept.journal), kept.network.name
     yield f"mkdir -p {FOLDER}"
@@ -127,7 +127,7 @@ def laying(kept: Kept) -> Iterator[str]:
     yield f"nrm run {kept.network.mode} {FOLDER}/network.csv < {FOLDER}/stream | cmp - {FOLDER}/replies"
 
 
-def believed(kept: Kept) -> Iterator[str]:
+def believed(kept: JournalRecord) -> Iterator[str]:
     """What must be believed of an account out of a journal."""
     yield f"That the network file in the journal is the true one. Its SHA-256 is {kept.file}."
     yield ("That the lines are those that the desks sent, all of them and in this order. A line or a reply that was "
@@ -138,7 +138,7 @@ def believed(kept: Kept) -> Iterator[str]:
     yield BY_HAND
 
 
-def of_programs(it: Programs) -> Iterator[str]:
+def of_programs(it: ProgramChecksums) -> Iterator[str]:
     """Which programs had a part, by their checksums."""
     here = {None: "and none is here to compare", it.answered: "and the one that is here is the same",
             }.get(it.here, f"and the one that is here has {it.here}")

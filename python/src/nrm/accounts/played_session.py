@@ -19,7 +19,7 @@ PUT_IN = 6  # replies at the end: to an empty line and `plan`, to an empty line 
 
 
 @dataclass(frozen=True)
-class Sale:
+class SoldBooking:
     """A booking: the line that made it, what that asked for, its product and its party."""
     line: int
     asked: str
@@ -43,12 +43,12 @@ class Differing:
     reply: str
 
 
-class Standing:
+class SessionState:
     """What stands behind the lines so far."""
 
     def __init__(self, network: Network) -> None:
         self.network, self.last_booking = network, 0
-        self.sales: dict[int, Sale] = {}
+        self.sales: dict[int, SoldBooking] = {}
         self.sold = {leg: 0 for leg in network.legs}
         self.planned = Planned(0, 1, self.left())
         self.differing: Differing | None = None
@@ -64,7 +64,7 @@ class Standing:
         answer = answer_of(reply)
         if isinstance(answer, Sold):
             _, product, party = asked.split(" ")
-            self.sales[answer.number] = Sale(number, asked, product, int(party))
+            self.sales[answer.number] = SoldBooking(number, asked, product, int(party))
             self.move(product, int(party))
             self.last_booking = answer.number
         elif isinstance(answer, Cancelled):
@@ -85,7 +85,7 @@ class Standing:
 
 
 @dataclass(frozen=True)
-class Course:
+class PlayedLine:
     """A line and its reply, the reply that was kept of it if replies were kept, what stands before it, the first line
     before it whose kept reply is another, and the plans in force before it and behind it."""
     network: Network
@@ -94,7 +94,7 @@ class Course:
     line: str
     reply: str
     kept: str | None
-    sales: Mapping[int, Sale]
+    sales: Mapping[int, SoldBooking]
     sold: Mapping[str, int]
     last_booking: int
     planned: Planned
@@ -104,10 +104,10 @@ class Course:
 
     @classmethod
     def played(cls, path: str, mode: str, stream: str, number: int, program: Program,
-               replies: str | None = None) -> Course:
+               replies: str | None = None) -> PlayedLine:
         """The course of a session up to a line of the file of a stream, by a run with a line `plan` before it and
         after. A file of replies has the one that was kept of each line."""
-        standing = Standing(Network.read(path))
+        standing = SessionState(Network.read(path))
         run = Stream(program, mode, path, with_plans(stream, number))
         try:
             told = replies_of(run.output)
@@ -155,7 +155,7 @@ def text_of_kept(reply: bytes) -> str:
     return text_of_line(reply).encode("unicode_escape").decode("ascii")
 
 
-def gone_through(standing: Standing, stream: str, replies: str | None, number: int,
+def gone_through(standing: SessionState, stream: str, replies: str | None, number: int,
                  told: Iterator[bytes]) -> tuple[str, str | None]:
     """Goes through the lines before one, with what each is told. Gives that line, and the reply that was kept of it."""
     with open(stream, "rb") as lines, open(replies or os.devnull, "rb") as file:

@@ -50,7 +50,7 @@ class Enough:
 
 
 @dataclass(frozen=True)
-class Nest:
+class NestAccount:
     """The adjusted fare of the product on a leg, its bucket, of how many, the bucket's bounds where it has them, and
     what its protected seats come from where there are some."""
     fare: Fraction
@@ -71,7 +71,7 @@ class LegAccount:
     protected: int
     needs: int
     short: int | None
-    nest: Nest | None
+    nest: NestAccount | None
 
 
 @dataclass(frozen=True)
@@ -84,7 +84,7 @@ class Fares:
 
 
 @dataclass(frozen=True)
-class Request:
+class RequestAccount:
     """A request for a known product: the plan in force, and the line that made it, 0 for the opening; what its legs
     had; the fare against bid prices where that was looked at; the largest party, and the answer to one seat more."""
     mode: str
@@ -100,7 +100,7 @@ class Request:
 
 
 @dataclass(frozen=True)
-class Cancellation:
+class CancellationAccount:
     """A cancellation of a booking that stood."""
     number: int
     product: str
@@ -118,7 +118,7 @@ class Optimisation:
     left: tuple[tuple[str, int], ...]
 
 
-Reasons = Union[Request, Cancellation, Optimisation, None]
+Reasons = Union[RequestAccount, CancellationAccount, Optimisation, None]
 
 
 @dataclass(frozen=True)
@@ -132,7 +132,7 @@ class Account:
     text: str
 
 
-class Lines:
+class AccountLines:
     """Lines that are taken one after the other."""
 
     def __init__(self, lines: Sequence[str]) -> None:
@@ -154,7 +154,7 @@ class Lines:
 
 def account_of(text: str) -> Account:
     """The account that a text is; a NoAnswer where it is none."""
-    lines = Lines(text.split("\n")[:-1] if text.endswith("\n") else [])
+    lines = AccountLines(text.split("\n")[:-1] if text.endswith("\n") else [])
     number, asked = lines.must(LINE)
     reasons = reasons_in(lines)
     told = lines.taken(ANSWER)
@@ -163,22 +163,22 @@ def account_of(text: str) -> Account:
     return Account(whole(number), asked, reasons, told[0] if told else None, text)
 
 
-def reasons_in(lines: Lines) -> Reasons:
+def reasons_in(lines: AccountLines) -> Reasons:
     """The reasons that the next lines tell, if they tell some."""
     if plan := lines.taken(PLAN):
         return request_in(lines, [it or "0" for it in plan])
     if booking := lines.taken(BOOKING):
         number, product, party, fare, worth, refund = [it or "" for it in booking]
         back, withheld = map(whole, lines.must(BACK))
-        return Cancellation(whole(number), product, whole(party), whole(fare), whole(worth), whole(refund), back,
-                            withheld)
+        return CancellationAccount(whole(number), product, whole(party), whole(fare), whole(worth), whole(refund), back,
+                                   withheld)
     left: list[tuple[str, int]] = []
     while found := lines.taken(LEFT):
         left.append((found[0] or "", whole(found[1] or "")))
     return Optimisation(tuple(left)) if left else None
 
 
-def request_in(lines: Lines, plan: Sequence[str]) -> Request:
+def request_in(lines: AccountLines, plan: Sequence[str]) -> RequestAccount:
     """The request that the lines behind the one of its plan tell."""
     mode, planned, period = plan
     product, fare, refund = lines.must(PRODUCT)
@@ -193,23 +193,23 @@ def request_in(lines: Lines, plan: Sequence[str]) -> Request:
         total, compared, below = lines.must(SUM)
         fares = Fares(tuple(prices), adjusted_of(total), whole(compared), adjusted_of(below) if below else None)
     largest, beyond = lines.must(LARGEST)
-    return Request(mode, whole(planned), whole(period), product, whole(fare), whole(refund), tuple(legs), fares,
-                   whole(largest), beyond)
+    return RequestAccount(mode, whole(planned), whole(period), product, whole(fare), whole(refund), tuple(legs), fares,
+                          whole(largest), beyond)
 
 
-def next_leg_in(lines: Lines) -> LegAccount | None:
+def next_leg_in(lines: AccountLines) -> LegAccount | None:
     """One leg more, if the next line is of one."""
     is_leg = lines.at < len(lines.lines) and lines.lines[lines.at].startswith(("leg ", "nest "))
     return leg_in(lines) if is_leg else None
 
 
-def leg_in(lines: Lines) -> LegAccount:
+def leg_in(lines: AccountLines) -> LegAccount:
     """The leg that the next lines tell of, with its nest if it has one."""
     nest, of_nest = None, lines.taken(NEST)
     if of_nest:
         _, fare, bucket, buckets, least, below = [it or "" for it in of_nest]
-        nest = Nest(adjusted_of(fare), whole(bucket), whole(buckets), whole(least) if least else None,
-                    whole(below) if below else None, enough_in(lines))
+        nest = NestAccount(adjusted_of(fare), whole(bucket), whole(buckets), whole(least) if least else None,
+                           whole(below) if below else None, enough_in(lines))
     name, *numbers, short = lines.must(LEG)
     if of_nest and of_nest[0] != name:
         raise NoAnswer(name)
@@ -217,7 +217,7 @@ def leg_in(lines: Lines) -> LegAccount:
     return LegAccount(name, authorised, sold, left, protected, needs, whole(short) if short else None, nest)
 
 
-def enough_in(lines: Lines) -> Enough | None:
+def enough_in(lines: AccountLines) -> Enough | None:
     """What protected seats come from, if the next two lines tell it."""
     told = lines.taken(ENOUGH)
     if not told:

@@ -5,11 +5,11 @@ from __future__ import annotations
 
 from fractions import Fraction
 
-from nrm.accounts.played_session import Course
+from nrm.accounts.played_session import PlayedLine
 from nrm.accounts.rule_nests import Rule
 
 
-def answer_by_rule(course: Course) -> str | None:
+def answer_by_rule(course: PlayedLine) -> str | None:
     """What the line is answered; None where no rule of this package says it: texts, hindsight, what is no line, and a
     plan that came to nothing."""
     kind, *rest = course.asked.split(" ")
@@ -22,7 +22,7 @@ def answer_by_rule(course: Course) -> str | None:
     return of_optimisation(course, int(rest[0])) if kind == "reoptimise" else None
 
 
-def of_request(course: Course, name: str, party: int) -> str:
+def of_request(course: PlayedLine, name: str, party: int) -> str:
     """A request: the first leg on which what is asked for and what is protected are more than what is left refuses it,
     and under `bid` a fare below the sum of the prices does."""
     product = course.network.products.get(name)
@@ -39,7 +39,7 @@ def of_request(course: Course, name: str, party: int) -> str:
     return f"ok {course.last_booking + 1}"
 
 
-def of_cancellation(course: Course, number: int) -> str:
+def of_cancellation(course: PlayedLine, number: int) -> str:
     """A cancellation: of the worth of a booking that stands the product's percentage, rounded down."""
     sale = course.sales.get(number)
     if sale is None:
@@ -48,7 +48,7 @@ def of_cancellation(course: Course, number: int) -> str:
     return f"cancelled {number} {sale.party * product.fare * product.refund // 100}"
 
 
-def of_optimisation(course: Course, period: int) -> str | None:
+def of_optimisation(course: PlayedLine, period: int) -> str | None:
     """A plan that is asked for: its value is that of the certificate behind the line."""
     if not 1 <= period <= course.network.periods:
         return "unknown"

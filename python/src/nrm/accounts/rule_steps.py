@@ -9,8 +9,9 @@ from dataclasses import dataclass
 from fractions import Fraction
 from typing import Iterator
 
-from nrm.accounts.played_session import Course
-from nrm.accounts.reading import Account, Cancellation, Enough, LegAccount, Nest, Optimisation, Request
+from nrm.accounts.played_session import PlayedLine
+from nrm.accounts.reading import (Account, CancellationAccount, Enough, LegAccount, NestAccount, Optimisation,
+                                  RequestAccount)
 from nrm.accounts.rule_answers import answer_by_rule
 from nrm.accounts.rule_nests import Rule
 from nrm.network import Product
@@ -30,7 +31,7 @@ def shown(number: Fraction) -> str:
     return f"{number.numerator}/{number.denominator}"
 
 
-def steps_of(account: Account, course: Course) -> Iterator[Step]:
+def steps_of(account: Account, course: PlayedLine) -> Iterator[Step]:
     """The steps of an account, beside the session up to its line."""
     asked = "bad" if course.reply == "bad" else course.asked
     yield Step(f"line {course.number} of the stream asks for: {asked}",
@@ -42,9 +43,9 @@ def steps_of(account: Account, course: Course) -> Iterator[Step]:
                    account.answer == course.reply)
     yield Step("an account with reasons is of a request for a product that there is, of a booking that stands, or of a "
                "period that there is", wants_reasons(course) == (account.reasons is not None))
-    if isinstance(account.reasons, Request):
+    if isinstance(account.reasons, RequestAccount):
         yield from of_request(account.reasons, course)
-    elif isinstance(account.reasons, Cancellation):
+    elif isinstance(account.reasons, CancellationAccount):
         yield from of_cancellation(account.reasons, course)
     elif isinstance(account.reasons, Optimisation):
         yield from of_optimisation(account.reasons, course)
@@ -54,7 +55,7 @@ def steps_of(account: Account, course: Course) -> Iterator[Step]:
                    f"the answer is: {answer}", account.answer == answer)
 
 
-def of_kept(account: Account, course: Course) -> Iterator[Step]:
+def of_kept(account: Account, course: PlayedLine) -> Iterator[Step]:
     """The replies that a journal has, to the line and to those before it."""
     yield Step(f"the journal has the reply of the account: {course.kept}", course.kept == account.answer)
     differing = course.differing
@@ -66,7 +67,7 @@ def of_kept(account: Account, course: Course) -> Iterator[Step]:
                    "of `nrm run`", True)
 
 
-def wants_reasons(course: Course) -> bool:
+def wants_reasons(course: PlayedLine) -> bool:
     """Whether the last line of a session is one that is answered for reasons."""
     verb = course.asked.split(" ")[0]
     return verb in ("book", "cancel", "reoptimise") and course.reply not in ("unknown", "bad")
@@ -75,7 +76,7 @@ def wants_reasons(course: Course) -> bool:
 # A request
 
 
-def of_request(it: Request, course: Course) -> Iterator[Step]:
+def of_request(it: RequestAccount, course: PlayedLine) -> Iterator[Step]:
     """The plan in force, the product, its legs, the fare, the answer, and the largest party."""
     made, period = course.planned.line, course.planned.period
     yield Step(f"the plan in force was made by {f'line {made}' if made else 'the opening'}, for period {period}, under "
@@ -96,7 +97,7 @@ def of_request(it: Request, course: Course) -> Iterator[Step]:
     yield from largest_steps(it, product, prices)
 
 
-def of_leg(leg: LegAccount, party: int, product: Product, course: Course) -> Iterator[Step]:
+def of_leg(leg: LegAccount, party: int, product: Product, course: PlayedLine) -> Iterator[Step]:
     """The seats of a leg, added up, and the comparison."""
     authorised, sold = course.network.legs[leg.name].authorised, course.sold[leg.name]
     yield Step(f"{leg.name}: {authorised} authorised in the network file less {sold} sold by the replies before, less "
@@ -127,7 +128,7 @@ def of_nest(leg: LegAccount, product: Product, rule: Rule, mode: str) -> Iterato
     yield from of_protection(leg, nest, rule)
 
 
-def of_protection(leg: LegAccount, nest: Nest, rule: Rule) -> Iterator[Step]:
+def of_protection(leg: LegAccount, nest: NestAccount, rule: Rule) -> Iterator[Step]:
     """The seats that are protected, by the rule, and the test of their number."""
     wanted = rule.protected(leg.name, rule_bucket(nest))
     yield Step(f"{leg.name}: by the rule of nests {wanted} seats are protected from bucket {nest.bucket}",
@@ -136,7 +137,7 @@ def of_protection(leg: LegAccount, nest: Nest, rule: Rule) -> Iterator[Step]:
         yield from of_enough(leg, nest.enough, rule)
 
 
-def rule_bucket(nest: Nest) -> int:
+def rule_bucket(nest: NestAccount) -> int:
     """The bucket of a nest, if the leg has it; else one that nothing is protected from."""
     return nest.bucket if 1 <= nest.bucket <= nest.buckets else 1
 
@@ -164,7 +165,7 @@ def of_enough(leg: LegAccount, it: Enough, rule: Rule) -> Iterator[Step]:
                less * it.mean > today)
 
 
-def of_fares(it: Request, product: Product, prices: dict[str, Fraction]) -> Iterator[Step]:
+def of_fares(it: RequestAccount, product: Product, prices: dict[str, Fraction]) -> Iterator[Step]:
     """The fare against the bid prices, where these are looked at."""
     looked_at = it.mode == "bid" and all(leg.short is None for leg in it.legs)
     if it.fares is None or not looked_at:
@@ -181,13 +182,13 @@ def of_fares(it: Request, product: Product, prices: dict[str, Fraction]) -> Iter
                (it.fares.sum, it.fares.fare, it.fares.below) == (total, product.fare, below if below > 0 else None))
 
 
-def ruled(it: Request, party: int, is_below: bool) -> str:
+def ruled(it: RequestAccount, party: int, is_below: bool) -> str:
     """What a party is answered, by the numbers of the legs: `ok` without the number of the booking where it is sold."""
     short = [leg.name for leg in it.legs if party + leg.protected > leg.left]
     return f"no {short[0]}" if short else "no fare" if is_below else "ok"
 
 
-def answer_step(it: Request, party: int, reply: str) -> Step:
+def answer_step(it: RequestAccount, party: int, reply: str) -> Step:
     """That the numbers give the answer."""
     wanted = ruled(it, party, it.fares is not None and it.fares.below is not None)
     why = {"ok": "no leg is short" + (", and the fare reaches the prices" if it.mode == "bid" else ""),
@@ -196,7 +197,7 @@ def answer_step(it: Request, party: int, reply: str) -> Step:
     return Step(f"{why}: {reply}", reply == wanted or wanted == "ok" and reply.startswith("ok "))
 
 
-def largest_steps(it: Request, product: Product, prices: dict[str, Fraction]) -> Iterator[Step]:
+def largest_steps(it: RequestAccount, product: Product, prices: dict[str, Fraction]) -> Iterator[Step]:
     """The largest party that is sold, and what one seat more is answered."""
     total = sum((prices[leg] for leg in product.legs), Fraction(0)) if it.mode == "bid" else Fraction(0)
     is_below = total > product.fare
@@ -213,7 +214,7 @@ def largest_steps(it: Request, product: Product, prices: dict[str, Fraction]) ->
 # A cancellation, and an optimisation
 
 
-def of_cancellation(it: Cancellation, course: Course) -> Iterator[Step]:
+def of_cancellation(it: CancellationAccount, course: PlayedLine) -> Iterator[Step]:
     """The booking, as its line was sold, and what is given back."""
     number = int(course.asked.split(" ")[1])
     sale = course.sales.get(number)
@@ -232,7 +233,7 @@ def of_cancellation(it: Cancellation, course: Course) -> Iterator[Step]:
                course.reply == f"cancelled {number} {back}")
 
 
-def of_optimisation(it: Optimisation, course: Course) -> Iterator[Step]:
+def of_optimisation(it: Optimisation, course: PlayedLine) -> Iterator[Step]:
     """The seats left, added up."""
     left = course.left()
     yield Step(f"by the replies before, {', '.join(f'{leg} has {seats}' for leg, seats in left.items())} seats left",

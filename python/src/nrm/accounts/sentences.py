@@ -5,8 +5,8 @@ from fractions import Fraction
 from typing import Sequence
 
 from nrm.accounts.checking import Why
-from nrm.accounts.played_session import Course
-from nrm.accounts.reading import Account, Cancellation, LegAccount, Optimisation, Request
+from nrm.accounts.played_session import PlayedLine
+from nrm.accounts.reading import Account, CancellationAccount, LegAccount, Optimisation, RequestAccount
 from nrm.accounts.rule_answers import answer_by_rule
 from nrm.accounts.rule_steps import shown
 
@@ -26,12 +26,12 @@ def was(number: int) -> str:
     return "was" if number == 1 else "were"
 
 
-def sentence_of(account: Account, course: Course, sale: str = "") -> str:
+def sentence_of(account: Account, course: PlayedLine, sale: str = "") -> str:
     """The account in plain words; of the sale of a booking that was cancelled more may be known than its line."""
     reasons = account.reasons
-    if isinstance(reasons, Request):
+    if isinstance(reasons, RequestAccount):
         return of_request(reasons, account.answer or "")
-    if isinstance(reasons, Cancellation):
+    if isinstance(reasons, CancellationAccount):
         return of_cancellation(reasons, course, sale)
     if isinstance(reasons, Optimisation):
         return of_optimisation(account)
@@ -46,7 +46,7 @@ def sentence_of(account: Account, course: Course, sale: str = "") -> str:
     return f"The line {verb} was answered: {account.answer}."
 
 
-def of_request(it: Request, answer: str) -> str:
+def of_request(it: RequestAccount, answer: str) -> str:
     """A request that was sold or refused, and what would have been enough."""
     party = it.legs[0].needs
     short = next((leg for leg in it.legs if leg.short is not None), None)
@@ -69,7 +69,7 @@ def of_short(leg: LegAccount) -> str:
     return f"{left}, {leg.protected} {was(leg.protected)} protected for dearer bookings, {asked}"
 
 
-def of_largest(it: Request) -> str:
+def of_largest(it: RequestAccount) -> str:
     """What would have been enough."""
     if it.largest == 0:
         return "No party, however small, would have been sold then."
@@ -78,7 +78,7 @@ def of_largest(it: Request) -> str:
     return f"The largest party that would have been sold then is {it.largest}."
 
 
-def of_cancellation(it: Cancellation, course: Course, more: str) -> str:
+def of_cancellation(it: CancellationAccount, course: PlayedLine, more: str) -> str:
     """What was given back of a booking, and when that was sold."""
     sale = course.sales.get(it.number)
     sold = f", sold by line {sale.line}{more}" if sale else ""

@@ -35,7 +35,7 @@ from nrm.seasons.averaged_prices import AVERAGED, Averaged
 from nrm.seasons.averaged_tables import Compared, beside_plan, prices_table
 from nrm.seasons.drawing import Settings
 from nrm.seasons.playing import Player
-from nrm.seasons.search_fields import Line
+from nrm.seasons.search_fields import ProgressLine
 from nrm.writing_files import Output
 
 
@@ -86,7 +86,7 @@ def compare(asked: argparse.Namespace, program: Program, folder: str) -> Compare
     """Plays seasons in all ways."""
     settings = Settings(seed=asked.seed, modes=(*MODES, AVERAGED), demand=asked.demand, order=asked.order,
                         parties=asked.parties, leave_out=asked.leave_out)
-    line = Line(functools.partial(tell, "averaged"))
+    line = ProgressLine(functools.partial(tell, "averaged"))
     compared = Compared(Player(bytes_in(asked.network), settings, program, folder))
     for number in range(asked.seasons):
         compared.play(number)

@@ -57,10 +57,10 @@ from nrm.commands.log_words import add_log, demand_of, names_told, requests_of, 
 from nrm.commands.running import at_least, parser
 from nrm.limits import MOST_HISTORIES
 from nrm.network import text_of
-from nrm.records.closures import Closure, Times
+from nrm.records.closures import Closure, ClosureTimes
 from nrm.records.estimate_days import estimated
 from nrm.records.estimate_products import known_of
-from nrm.records.estimate_results import Estimate, carried, copies_of, drawn
+from nrm.records.estimate_results import DemandEstimate, carried, copies_of, drawn
 from nrm.records.fitting_names import named
 from nrm.records.log_demand import completed
 from nrm.records.log_rows import Log
@@ -91,7 +91,7 @@ def run(given: Sequence[str]) -> int:
         above = completed(asked.network, demand, names, tell)
     rates = estimated(sale, calendar, known_of(sale, names, asked.network, asked.before, asked.like_class))
     made = carried(rates) if asked.mean else drawn(rates, copies, asked.seed)
-    estimate = Estimate(rates, names, made, copies, asked.before)
+    estimate = DemandEstimate(rates, names, made, copies, asked.before)
     rows = [["periods", estimate.histories(), *above[0][2:]], *above[1:], *estimate.rows()]
     for line in [*names_told(names, [], sale.products, asked.names), *estimate.told()]:
         tell(line)
@@ -131,7 +131,8 @@ def words_of(given: Sequence[str]) -> argparse.Namespace:
 def closures_of(asked: argparse.Namespace) -> list[Closure]:
     """The closures that a file says, or that readings tell of."""
     path, others = (asked.closures, asked.closed) if asked.closures else (asked.readings, [asked.read, asked.available])
-    times = Times(path, asked.departs, asked.product, others, asked.dates, asked.multiline, last_names(asked.same))
+    times = ClosureTimes(path, asked.departs, asked.product, others, asked.dates, asked.multiline,
+                         last_names(asked.same))
     return times.closures(tell) if asked.closures else times.readings(tell)
 
 

@@ -48,7 +48,7 @@ from nrm.commands.running import parser, tell
 from nrm.desks_program import see_that_it_opens
 from nrm.journal.choosing_store import store_of, using
 from nrm.journal.importing import TextJournal, import_network
-from nrm.journal.looking import Wanted, copy, lines_of, summary
+from nrm.journal.looking import WantedLines, copy, lines_of, summary
 from nrm.journal.network_times import Times, lines_of_times, see_that_it_has, set_times, times_in, times_of
 from nrm.journal.networks import (end_network, file_of, freeze_network, known, networks_in, put_network,
                                   see_that_it_is_free, thaw_network)
@@ -139,7 +139,7 @@ def look(words: argparse.ArgumentParser, asked: argparse.Namespace) -> None:
         print("\n".join(summary(asked.journal)))
         return
     try:
-        wanted = Wanted(number(asked.words[1]) if asked.words[1:] else None, asked.desk, asked.booking)
+        wanted = WantedLines(number(asked.words[1]) if asked.words[1:] else None, asked.desk, asked.booking)
     except ValueError:
         words.error(f"{asked.words[1]!r} is no number of a line")
     for line in lines_of(asked.journal, asked.words[0], wanted):

@@ -109,8 +109,8 @@ from nrm.commands.running import parser
 from nrm.network import text_of
 from nrm.records.export_bookings import Booking
 from nrm.records.export_offer import Offer, fares_of, seats_of, with_fares
-from nrm.records.export_streams import Stream
-from nrm.records.export_trains import Lines
+from nrm.records.export_streams import DepartureStream
+from nrm.records.export_trains import TrainLines
 from nrm.records.fitting_names import named
 from nrm.records.log_demand import Demand, completed
 from nrm.records.log_rows import some_of
@@ -180,7 +180,7 @@ def offer_of(asked: argparse.Namespace, bookings: Sequence[Booking]) -> Offer | 
     """The legs and products that the stops of the bookings show, if a column has these."""
     if not (asked.stops or asked.first_stop):
         return None
-    lines = Lines(bookings, asked.line, asked.join, asked.stops is not None and asked.train is None)
+    lines = TrainLines(bookings, asked.line, asked.join, asked.stops is not None and asked.train is None)
     for text in lines.ends_joined(asked.join):
         tell(text)
     return Offer(bookings, lines)
@@ -188,7 +188,7 @@ def offer_of(asked: argparse.Namespace, bookings: Sequence[Booking]) -> Offer | 
 
 def stream_of(asked: argparse.Namespace, bookings: Sequence[Booking], names: Mapping[str, str]) -> str:
     """The stream of the day that is asked for. Tells what it has."""
-    stream = Stream(bookings, day_of_word(asked.stream[0]), names, asked.net)
+    stream = DepartureStream(bookings, day_of_word(asked.stream[0]), names, asked.net)
     for text in stream.told():
         tell(text)
     return "".join(f"{it}\n" for it in stream.lines(asked.cuts))

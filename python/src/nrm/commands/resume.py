@@ -21,7 +21,7 @@ import sys
 from typing import Sequence
 
 from nrm.commands.running import add_program, parser
-from nrm.journal.resuming import Kept, go_on, place_to_go_on_at
+from nrm.journal.resuming import CutSession, go_on, place_to_go_on_at
 from nrm.program import Program
 from nrm.replies import MODES
 
@@ -36,7 +36,7 @@ def run(given: Sequence[str]) -> int:
     words.add_argument("--go-on", action="store_true")
     add_program(words)
     asked = words.parse_args(given)
-    program, kept = Program.found(asked.program), Kept(asked.network, asked.mode, asked.stream, asked.replies)
+    program, kept = Program.found(asked.program), CutSession(asked.network, asked.mode, asked.stream, asked.replies)
     kept.see_that_its_files_can_be_read()  # before anything is run
     place = place_to_go_on_at(kept, program)
     print(f"go on at line {place.line}; {place.size} bytes of whole replies stand before it",

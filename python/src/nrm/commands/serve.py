@@ -57,7 +57,7 @@ from nrm.commands.serve_words import (add_clock, add_guard, add_limits, add_log,
                                       limits_in, places_in, sharing_in)
 from nrm.journal.choosing_store import store_of
 from nrm.program import Program
-from nrm.server.event_log import Log
+from nrm.server.event_log import LogForm
 from nrm.server.hall import Answering
 from nrm.server.serving import Server
 
@@ -74,7 +74,7 @@ def run(given: Sequence[str]) -> int:
     add_sharing(words)
     asked = words.parse_args(given)
     places, guard, limits = places_in(words, asked), guard_in(words, asked), limits_in(words, asked)
-    log = Log(asked.log, asked.log_level)
+    log = LogForm(asked.log, asked.log_level)
     store = store_of(asked.journal, asked.alone)
     sharing = sharing_in(words, asked, store.is_shared)
     program = Program.found(asked.program, "nrm_desks")

@@ -10,8 +10,8 @@ from typing import Callable
 from nrm import Stop, bytes_in
 from nrm.desk import TOKEN
 from nrm.program import PIECE
-from nrm.server.clients import Limits
-from nrm.server.event_log import FORMS, LEVELS, Log
+from nrm.server.clients import ClientLimits
+from nrm.server.event_log import FORMS, LEVELS, LogForm
 from nrm.server.fleet import Sharing
 from nrm.server.sockets import OWN_RIGHTS, Places
 from nrm.server.watched_files import Guard
@@ -77,7 +77,7 @@ OF_LIMITS: tuple[tuple[str, Callable[[str], float], str, str], ...] = (
     ("slow", seconds, "SECONDS", "for a line once it begins, for saying who one is, taking replies, and the end"),
     ("idle", seconds, "SECONDS", "for a next line"),
     ("answer", seconds, "SECONDS", "for a program's next answer before it is ended"),
-    ("linger", seconds, "SECONDS", "for which a program without clients stays"))  # each a field of `Limits`
+    ("linger", seconds, "SECONDS", "for which a program without clients stays"))  # each a field of `ClientLimits`
 
 
 def add_places(words: argparse.ArgumentParser) -> None:
@@ -101,7 +101,7 @@ def add_guard(words: argparse.ArgumentParser) -> None:
 def add_limits(words: argparse.ArgumentParser) -> None:
     """The options that end waiting and bound memory."""
     for name, kind, value, what in OF_LIMITS:
-        words.add_argument(f"--{name}", type=kind, default=getattr(Limits, name), metavar=value,
+        words.add_argument(f"--{name}", type=kind, default=getattr(ClientLimits, name), metavar=value,
                            help=f"{what}; %(default)s")
 
 
@@ -114,9 +114,9 @@ def add_clock(words: argparse.ArgumentParser) -> None:
 
 def add_log(words: argparse.ArgumentParser) -> None:
     """The options for what is told on standard error."""
-    words.add_argument("--log", choices=FORMS, default=Log.form,
+    words.add_argument("--log", choices=FORMS, default=LogForm.form,
                        help="the form of what is told on standard error; %(default)s")
-    words.add_argument("--log-level", choices=LEVELS, default=Log.level,
+    words.add_argument("--log-level", choices=LEVELS, default=LogForm.level,
                        help="the least level that is told there; %(default)s")
 
 
@@ -168,8 +168,8 @@ def guard_in(words: argparse.ArgumentParser, asked: argparse.Namespace) -> Guard
     return Guard(asked.desks, asked.certificate, asked.key)
 
 
-def limits_in(words: argparse.ArgumentParser, asked: argparse.Namespace) -> Limits:
+def limits_in(words: argparse.ArgumentParser, asked: argparse.Namespace) -> ClientLimits:
     """What ends waiting and bounds memory, as the words say; an end with the usage where that can't be."""
     if asked.unsent < PIECE:
         words.error(f"--unsent is at least {PIECE}")
-    return Limits(**{name: getattr(asked, name) for name, *_ in OF_LIMITS})
+    return ClientLimits(**{name: getattr(asked, name) for name, *_ in OF_LIMITS})

@@ -74,7 +74,7 @@ from nrm.program import Program
 from nrm.records.name_lists import texts_in
 from nrm.replies import MODES
 from nrm.seasons.averaged_prices import AVERAGED
-from nrm.seasons.comparing_page import Picture, about, page, pictures
+from nrm.seasons.comparing_page import SeasonPicture, about, page, pictures
 from nrm.seasons.comparing_tables import Study
 from nrm.seasons.coupled import together
 from nrm.seasons.drawing import Settings
@@ -186,7 +186,7 @@ def show(asked: argparse.Namespace, settings: Settings, studies: Sequence[Season
         print(*map(said, [*paths, *(it.whole for it in studies)]), sep="\n")
 
 
-def drawn(shown: Sequence[Picture], folder: str, output: Output) -> Iterator[str]:
+def drawn(shown: Sequence[SeasonPicture], folder: str, output: Output) -> Iterator[str]:
     """Draws pictures, and gives the paths of their files."""
     from nrm.pages.figures import written
     yield from written([(it.name, it.draw) for it in shown], folder, output, kinds=["svg"])

@@ -30,7 +30,7 @@ from typing import Sequence
 from nrm.commands.running import parser
 from nrm.commands.serve_words import seconds, token_in
 from nrm.web.http_server import SECONDS, Listening
-from nrm.web.routes import Settings
+from nrm.web.routes import WebSettings
 from nrm.web.web_run import serve
 
 
@@ -57,7 +57,7 @@ def words_of(given: Sequence[str]) -> tuple[argparse.ArgumentParser, argparse.Na
     words.add_argument("--token", metavar="FILE", help="a file with the token by which this process looks")
     words.add_argument("--certificate", metavar="FILE", help="of HTTPS")
     words.add_argument("--key", metavar="FILE", help="of the certificate")
-    words.add_argument("--answer", type=seconds, default=Settings.seconds, metavar="SECONDS",
+    words.add_argument("--answer", type=seconds, default=WebSettings.seconds, metavar="SECONDS",
                        help="for an answer of the server; %(default)s")
     words.add_argument("--slow", type=seconds, default=SECONDS, metavar="SECONDS",
                        help="for all of a request, and for taking an answer; %(default)s")
@@ -74,8 +74,8 @@ def run(given: Sequence[str]) -> int:
     if (asked.certificate is None) != (asked.key is None):
         words.error("--certificate and --key come together")
     token = token_in(asked.token) if asked.token else None
-    settings = Settings(asked.journal, asked.socket, token, asked.page, asked.door,
-                        asked.tokens or asked.beyond_this_machine, asked.answer, asked.why)
+    settings = WebSettings(asked.journal, asked.socket, token, asked.page, asked.door,
+                           asked.tokens or asked.beyond_this_machine, asked.answer, asked.why)
     listening = Listening(asked.listen, asked.beyond_this_machine, asked.certificate, asked.key, seconds=asked.slow,
                           hosts=tuple(asked.host))
     return serve(settings, listening)

@@ -36,9 +36,9 @@ import argparse
 from typing import Sequence
 
 from nrm import Stop, said
-from nrm.accounts.account_page import Told, html, text
-from nrm.accounts.checking import Asked, found
-from nrm.accounts.journal_accounts import AskedOfJournal
+from nrm.accounts.account_page import AccountPage, html, text
+from nrm.accounts.checking import LineOfStream, found
+from nrm.accounts.journal_accounts import LineOfJournal
 from nrm.accounts.page_subjects import of_journal, of_stream
 from nrm.commands.running import add_program, at_least, lacking, parser, tell
 from nrm.limits import LAST_LINE
@@ -57,7 +57,7 @@ def line_number(text: str) -> int:
     return int(text)
 
 
-def words_of(given: Sequence[str]) -> tuple[argparse.Namespace, Asked | AskedOfJournal]:
+def words_of(given: Sequence[str]) -> tuple[argparse.Namespace, LineOfStream | LineOfJournal]:
     """What is asked, and of which line."""
     words = parser("why", __doc__)
     words.add_argument("words", nargs="*", metavar="WORD", help="where the line stands, as above")
@@ -70,22 +70,22 @@ def words_of(given: Sequence[str]) -> tuple[argparse.Namespace, Asked | AskedOfJ
     if len(asked.words) != (2 if asked.booking else 3) and (len(asked.words) != 4 or asked.booking):
         words.error(FORMS)
     if asked.booking:
-        return asked, AskedOfJournal(asked.words[0], asked.words[1], None, asked.booking)
+        return asked, LineOfJournal(asked.words[0], asked.words[1], None, asked.booking)
     *place, last = asked.words
     try:
         number = line_number(last)
     except ValueError:
         words.error(f"{last!r} is no number of a line")
     if len(place) == 2:
-        return asked, AskedOfJournal(place[0], place[1], number)
+        return asked, LineOfJournal(place[0], place[1], number)
     if place[1] not in MODES:
         words.error(f"{place[1]!r} is no mode, which is the second of four words: {', '.join(MODES)}")
-    return asked, Asked(place[0], place[1], place[2], number)
+    return asked, LineOfStream(place[0], place[1], place[2], number)
 
 
-def told_of(line: Asked | AskedOfJournal, words: Sequence[str], program: Program) -> Told:
+def told_of(line: LineOfStream | LineOfJournal, words: Sequence[str], program: Program) -> AccountPage:
     """What is to be told of a line."""
-    if isinstance(line, Asked):
+    if isinstance(line, LineOfStream):
         return of_stream(line, line.why(words, program))
     return of_journal(*line.why(words, program))
 

@@ -13,7 +13,7 @@ FIELDS = "desk", "sequence", "line", "reply"
 
 
 @dataclass(frozen=True)
-class Line:
+class AnsweredLine:
     """A line as the journal has it. The time is what the machine's clock said as the line was written."""
     number: int
     at: str
@@ -23,14 +23,14 @@ class Line:
     reply: str
 
 
-def line_in(connection: Tables, network: Opened, number: int) -> Line:
+def line_in(connection: Tables, network: Opened, number: int) -> AnsweredLine:
     """The line of a number; a Stop if there is none, that says how many there are."""
     fields = ", ".join(connection.bytes_of.format(it) for it in FIELDS)
     row = connection.execute(f"SELECT number, {connection.time.format('at')}, {fields} FROM line WHERE network = ? AND "
                              "number = ?", [network.number, number]).fetchone()
     if row:
         found, at, *rest = row
-        return Line(found, str(at), *map(shown, rest))
+        return AnsweredLine(found, str(at), *map(shown, rest))
     if number <= network.lines:
         raise taken_out(network, number)
     there_are = f"{network.lines} line{'' if network.lines == 1 else 's'}" if network.lines else "no lines yet"
@@ -67,7 +67,7 @@ def sold_by(connection: Tables, network: Opened, booking: int) -> int:
     return int(number)
 
 
-def given_back_by(connection: Tables, network: Opened, booking: int) -> Line | None:
+def given_back_by(connection: Tables, network: Opened, booking: int) -> AnsweredLine | None:
     """The line that cancelled a booking, if one did."""
     front = f"cancelled {booking} "
     [number] = connection.execute("SELECT min(number) FROM line WHERE network = ? AND line = ? AND "

@@ -18,7 +18,7 @@ from nrm.desks_frames import ALL_AGAIN, END, KEPT, Frame, Frames, came, opened
 from nrm.desks_program import begun, see_that_it_opens
 from nrm.journal.networks import known, open_network, see_that_it_is_free
 from nrm.journal.sqlite_tables import using
-from nrm.journal.sqlite_writing import HALT, Writer, locked
+from nrm.journal.sqlite_writing import HALT, SqliteWriter, locked
 from nrm.journal.stores import Given
 from nrm.program import PIECE, Program, ended
 
@@ -86,10 +86,10 @@ def void_in(path: str, count: int) -> Iterator[int]:
 # How it is carried out
 
 
-class Dialogue:
+class ImportRun:
     """A run of `nrm_desks` with one client, whose rows are written."""
 
-    def __init__(self, program: Program, process: subprocess.Popen[bytes], writer: Writer, network: int) -> None:
+    def __init__(self, program: Program, process: subprocess.Popen[bytes], writer: SqliteWriter, network: int) -> None:
         assert process.stdin and process.stdout
         self.program, self.process, self.writer, self.network = program, process, writer, network
         self.given, self.told = process.stdin.fileno(), process.stdout.fileno()
@@ -137,7 +137,7 @@ def import_network(path: str, name: str, mode: str, file: str, old: TextJournal,
             open_network(connection, name, mode, network_file, program.checksum())
             network = known(connection, name).number
             connection.execute(HALT, [UNDER_WAY, network])
-        writer = Writer(path, program.checksum())
+        writer = SqliteWriter(path, program.checksum())
         try:
             count = carried_out(program, begun(program.words, mode, network_file), writer, network, old.lines())
         finally:
@@ -147,10 +147,10 @@ def import_network(path: str, name: str, mode: str, file: str, old: TextJournal,
     return count
 
 
-def carried_out(program: Program, process: subprocess.Popen[bytes], writer: Writer, network: int,
+def carried_out(program: Program, process: subprocess.Popen[bytes], writer: SqliteWriter, network: int,
                 lines: Iterable[bytes]) -> int:
     """Has a program carry out lines, and writes its rows. Gives how many there are."""
-    dialogue = Dialogue(program, process, writer, network)
+    dialogue = ImportRun(program, process, writer, network)
     try:
         os.write(dialogue.given, ALL_AGAIN + opened(0, DESK, RIGHTS))
         rest = iter(lines)

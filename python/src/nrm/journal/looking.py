@@ -13,7 +13,7 @@ PAGES_AT_ONCE = 1000  # of a copy, which goes on with the same state of the jour
 
 
 @dataclass(frozen=True)
-class Wanted:
+class WantedLines:
     """Which lines of a network are wanted: the one of a number, those of a desk, those of a booking; all if nothing is
     said."""
     number: int | None = None
@@ -46,7 +46,7 @@ def summary(path: str) -> Iterator[str]:
             yield f"{name} {mode}, {lines} lines, begun {begun}{became}, program {program}"
 
 
-def lines_of(path: str, network: str, wanted: Wanted) -> Iterator[str]:
+def lines_of(path: str, network: str, wanted: WantedLines) -> Iterator[str]:
     """Lines of a network, with who asked each and when, and the replies."""
     condition, values = wanted.condition()
     with using(path) as connection:

@@ -6,7 +6,7 @@ from __future__ import annotations
 
 from dataclasses import dataclass
 
-from nrm.journal.stores import Lines, Tables
+from nrm.journal.stores import LineConditions, Tables
 
 LAST = "FROM line {of.by_number} WHERE line.network = departure.network AND {of.asks_for_a_plan} " \
        "ORDER BY number DESC LIMIT 1"
@@ -54,7 +54,7 @@ class Standing:
         return min([*again, *([self.next_at] if self.next_at is not None else [])], default=None)
 
 
-def standings_by(lines: Lines) -> str:
+def standings_by(lines: LineConditions) -> str:
     """The query for where networks stand, as lines are told apart."""
     return STANDINGS.format(of=lines, last=LAST.format(of=lines))
 

@@ -8,7 +8,7 @@ from typing import Sequence
 import psycopg
 
 from nrm.journal.postgres_tables import WAITS, Link, NotReached, Statement, history_of
-from nrm.journal.stores import Head, Member, Named, Replaced, Seen, Unknown, now
+from nrm.journal.stores import Head, Member, Named, Replaced, SeenServers, UnknownOutcome, now
 
 LOCKS = 1_853_188_454  # the kind of the locks that servers hold: one that has lost its lock is dead, or cut off
 LEASE = 3.0  # seconds after which a server that isn't heard of has lost its networks
@@ -47,7 +47,7 @@ WHERE head.network = owned.network AND head.epoch = owned.epoch"""
 NO_MORE = "UPDATE server SET seen = '-infinity' WHERE server = %s"
 
 
-class Members:
+class PostgresMembers:
     """A server among others. Heartbeats wait for no standby, since nothing that is told stands on them; takings do."""
     faults: tuple[type[Exception], ...] = (psycopg.Error,)
 
@@ -59,7 +59,7 @@ class Members:
         self.gone: set[int] = set()  # those of them that aren't held any more
         self.beaten_at = self.sure_from = 0.0
 
-    def beat(self, is_leaving: bool) -> Seen:
+    def beat(self, is_leaving: bool) -> SeenServers:
         """Tells that this server is alive, and looks who else is and whose each network is."""
         self.tell(is_leaving)
         if self.beats.connection is not self.locked_on:
@@ -71,8 +71,8 @@ class Members:
             self.sure_from = at + LEASE  # the others may have been as long without the database as this one
         self.beaten_at = at
         [(heads, size)] = self.beats.ask(HEADS).fetchall()
-        return Seen(self.server, members, frozenset(self.gone | self.replaced()), at >= self.sure_from,
-                    tuple(Head(*it) for it in json.loads(heads)), self.takes.weakness(), size)
+        return SeenServers(self.server, members, frozenset(self.gone | self.replaced()), at >= self.sure_from,
+                           tuple(Head(*it) for it in json.loads(heads)), self.takes.weakness(), size)
 
     def tell(self, is_leaving: bool) -> None:
         """Says that this server is alive, as a new one if the database has lost it."""
@@ -106,7 +106,7 @@ class Members:
         except NotReached:
             return {}
         except psycopg.OperationalError as fault:
-            raise Unknown(self.takes.address.told(str(fault)))
+            raise UnknownOutcome(self.takes.address.told(str(fault)))
 
     def history(self) -> str:
         """The past of the database that the last taking is in."""

@@ -8,10 +8,10 @@ import psycopg
 
 from nrm import Stop
 from nrm.journal.postgres_addresses import address_of
-from nrm.journal.postgres_members import Members
+from nrm.journal.postgres_members import PostgresMembers
 from nrm.journal.postgres_schema import TABLES, VERSION
-from nrm.journal.postgres_tables import Link, Tables
-from nrm.journal.postgres_writing import HALT, Writer
+from nrm.journal.postgres_tables import Link, PostgresTables
+from nrm.journal.postgres_writing import HALT, PostgresWriter
 from nrm.journal.stores import Named, NoJournal
 
 WITHOUT_WAITING = "-c synchronous_commit=off"  # for a standby, nor for a disk
@@ -33,9 +33,9 @@ class Postgres:
             with tables.change():
                 tables.execute(TABLES)
 
-    def opened(self, is_to_write: bool = False) -> Tables:
+    def opened(self, is_to_write: bool = False) -> PostgresTables:
         """A connection to the tables."""
-        made = Tables(Link(self.address))
+        made = PostgresTables(Link(self.address))
         try:
             if not made.has("version"):
                 raise NoJournal(f"{self.place} has no journal: `nrm-tools journal begin` makes one")
@@ -52,9 +52,9 @@ class Postgres:
         return made
 
     @contextlib.contextmanager
-    def tables(self) -> Iterator[Tables]:
+    def tables(self) -> Iterator[PostgresTables]:
         """A connection to the database, whatever is in it. What goes wrong is a Stop."""
-        made = Tables(Link(self.address))
+        made = PostgresTables(Link(self.address))
         try:
             yield made
         except psycopg.Error as fault:
@@ -66,13 +66,13 @@ class Postgres:
         """It is for several servers."""
         return contextlib.nullcontext()
 
-    def writer(self, program: str) -> Writer:
+    def writer(self, program: str) -> PostgresWriter:
         """What writes the rows of a server."""
-        return Writer(Link(self.address, is_alone=self.is_alone))
+        return PostgresWriter(Link(self.address, is_alone=self.is_alone))
 
-    def members(self, named: Named) -> Members:
+    def members(self, named: Named) -> PostgresMembers:
         """What this server tells others, and sees of them."""
-        return Members(Link(self.address, WITHOUT_WAITING), Link(self.address, is_alone=self.is_alone), named)
+        return PostgresMembers(Link(self.address, WITHOUT_WAITING), Link(self.address, is_alone=self.is_alone), named)
 
     def halt(self, network: int, epoch: int, why: str) -> None:
         """Has nobody answer for a network any more, if its epoch is still this one. If the connection is lost it may be

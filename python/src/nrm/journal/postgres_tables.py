@@ -13,7 +13,7 @@ from psycopg.pq.abc import PGresult
 from nrm.desks_frames import MOST
 from nrm.journal.postgres_addresses import Address
 from nrm.journal.postgres_schema import ASKS_FOR_A_PLAN, PERIOD, TIME
-from nrm.journal.stores import Lines, Rows, Values
+from nrm.journal.stores import LineConditions, Rows, Values
 
 ROWS_AT_ONCE = 10_000  # that are read in one piece
 STALE = 5  # times that the version is asked for until it is another
@@ -163,11 +163,11 @@ class Link:
         self.connection = None
 
 
-class Tables:
+class PostgresTables:
     """The tables, by a connection of its own."""
     time = TIME
     bytes_of = "convert_to(CAST({} AS text), 'UTF8')"
-    lines = Lines(ASKS_FOR_A_PLAN, PERIOD)
+    lines = LineConditions(ASKS_FOR_A_PLAN, PERIOD)
     faults: tuple[type[Exception], ...] = (psycopg.Error,)
     lost: tuple[type[Exception], ...] = (psycopg.OperationalError,)
     first_head = "INSERT INTO head VALUES (?, 0, 0, NULL)"

@@ -8,7 +8,7 @@ from typing import Sequence
 import psycopg
 
 from nrm.journal.postgres_tables import STALE, WAITS, Link, NotReached, Statement
-from nrm.journal.stores import Busy, Given, Unknown, now
+from nrm.journal.stores import Busy, Given, UnknownOutcome, now
 
 PAUSE = 0.1  # the seconds before it is tried again to reach the database
 # A network's count of lines rises, and its rows are there, if its epoch and its count are still those that the writer
@@ -36,7 +36,7 @@ UPDATE network SET halted = $1 WHERE network = $2 AND halted IS NULL
     AND EXISTS (SELECT FROM head WHERE head.network = network.network AND epoch = $3) RETURNING {WAITS}""")
 
 
-class Writer:
+class PostgresWriter:
     """One server's writing, by a connection that nothing else uses."""
     is_quick = False
 
@@ -73,7 +73,7 @@ class Writer:
             time.sleep(PAUSE)
             raise Busy(str(fault))
         except psycopg.OperationalError as fault:
-            raise Unknown(self.link.address.told(str(fault)))
+            raise UnknownOutcome(self.link.address.told(str(fault)))
 
     def look(self) -> None:
         """The database sees to its files."""

@@ -27,7 +27,7 @@ STANDARD_INPUT = 0
 
 
 @dataclass(frozen=True)
-class Kept:
+class CutSession:
     """What a session left: the network file, the mode, the file of the stream so far, that of the replies kept."""
     network: str
     mode: str
@@ -73,7 +73,7 @@ class Kept:
 
 
 @dataclass(frozen=True)
-class Place:
+class ResumePoint:
     """Where a stream goes on: its first line without a whole reply, and how many bytes the replies before it have."""
     line: int
     size: int
@@ -85,7 +85,7 @@ def parted(number: int, kept: bytes, reply: bytes) -> Stop:
     return Stop(f"line {number}: {before!r} was kept, and the program answers {now!r}")
 
 
-def place_to_go_on_at(kept: Kept, program: Program) -> Place:
+def place_to_go_on_at(kept: CutSession, program: Program) -> ResumePoint:
     """Where the stream goes on, found by a run over all of it."""
     session, number, size = Stream(program, kept.mode, kept.network, kept.asked_again()), 0, 0
     with open(kept.replies, "rb") as there:
@@ -97,16 +97,16 @@ def place_to_go_on_at(kept: Kept, program: Program) -> Place:
                 if not (reply.startswith(front) or WANTED.startswith(front) and not there.read(1)):
                     raise parted(number, front, reply)
                 session.kill()
-                return Place(number, size)
+                return ResumePoint(number, size)
             size += len(reply)
         if (status := session.wait()) not in (0, LINE_CUT_OFF):
             raise Stop(f"after line {number} the program ended with status {status}")
         if more := there.read(PIECE):
             raise parted(number + 1, more, b"")
-    return Place(number + 1, size)
+    return ResumePoint(number + 1, size)
 
 
-def go_on(kept: Kept, program: Program, before: int) -> int:
+def go_on(kept: CutSession, program: Program, before: int) -> int:
     """Answers standard input as the session does that has answered the lines before one, and gives the status."""
     session = Stream(program, kept.mode, kept.network, kept.lines_again(before), source=STANDARD_INPUT)
     for number, reply in enumerate(itertools.islice(kept.replies_kept(), before - 1), 1):

@@ -29,9 +29,9 @@ class Sqlite:
         """The journal, as this process's alone."""
         return writing.locked(self.place)
 
-    def writer(self, program: str) -> writing.Writer:
+    def writer(self, program: str) -> writing.SqliteWriter:
         """What writes the rows of a server, which takes all networks by it."""
-        return writing.Writer(self.place, program)
+        return writing.SqliteWriter(self.place, program)
 
     def members(self, named: Named) -> Members:
         """There are no others."""

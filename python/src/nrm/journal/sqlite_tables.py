@@ -10,7 +10,7 @@ from typing import ContextManager, Iterator
 from nrm import Stop
 from nrm.desks_frames import pieces_of
 from nrm.journal.sqlite_files import see_that_it_has_one_name
-from nrm.journal.stores import Busy, Lines, NoJournal, closed_at_the_end
+from nrm.journal.stores import Busy, LineConditions, NoJournal, closed_at_the_end
 
 APPLICATION, VERSION = 0x6E726D6A, 1  # `nrmj`, and the version of the tables: both are in the head of the file
 LOGS = ("-wal", "-shm", "-journal")  # what SQLite has beside a file
@@ -104,7 +104,8 @@ class Connection(sqlite3.Connection):
     """A connection to the tables, with what differs from other stores."""
     time = "strftime('%Y-%m-%dT%H:%M:%fZ', {} / 1000.0, 'unixepoch')"
     bytes_of = "CAST({} AS BLOB)"
-    lines = Lines(ASKS_FOR_A_PLAN, PERIOD, "CROSS JOIN", "INDEXED BY plan_by_number", "INDEXED BY plan_by_period")
+    lines = LineConditions(ASKS_FOR_A_PLAN, PERIOD, "CROSS JOIN", "INDEXED BY plan_by_number",
+                           "INDEXED BY plan_by_period")
     faults: tuple[type[Exception], ...] = (sqlite3.Error,)
     lost: tuple[type[Exception], ...] = (Busy,)
     first_head = "INSERT INTO head SELECT ?, 0, coalesce(max(epoch), 0) FROM tenure"

@@ -10,7 +10,7 @@ from typing import Iterator, Sequence
 from nrm import Stop
 from nrm.journal.sqlite_files import Files
 from nrm.journal.sqlite_tables import Connection, opened
-from nrm.journal.stores import Busy, Fenced, Given, Gone, Refused, now
+from nrm.journal.stores import Busy, Fenced, Given, Gone, RefusedByStore, now
 
 FENCE = ("UPDATE head SET lines = lines + ? WHERE network = ? AND epoch = ? AND lines = ?"
          " AND EXISTS (SELECT * FROM network WHERE network.network = head.network AND ended IS ?)")
@@ -42,7 +42,7 @@ def locked(path: str) -> Iterator[None]:
         os.close(file)
 
 
-class Writer:
+class SqliteWriter:
     """One server's writing. It begins with a commit of its own, so that what is read later can't be lost either."""
 
     def __init__(self, path: str, program: str) -> None:
@@ -75,7 +75,7 @@ class Writer:
             with self.commit():
                 self.put_rows(given)
             return {}
-        except (Refused, Changed):
+        except (RefusedByStore, Changed):
             with self.commit():
                 return {network: why for it in given for network, why in self.put(it).items()}
         except sqlite3.OperationalError as fault:
@@ -101,7 +101,7 @@ class Writer:
         self.connection.execute("SAVEPOINT network")
         try:
             self.put_rows([given])
-        except (Refused, Changed) as why:
+        except (RefusedByStore, Changed) as why:
             self.connection.execute("ROLLBACK TO network")
             if isinstance(why, Changed):
                 return {given.network: None}
@@ -121,7 +121,7 @@ class Writer:
             for text, some in statements(values):
                 self.connection.execute(text, some)
         except sqlite3.IntegrityError as why:
-            raise Refused(given[0].refused(why))
+            raise RefusedByStore(given[0].refused(why))
 
     def pass_the_fence(self, given: Given) -> None:
         """Counts up the lines of a network, if it is still this server's and has the lines and the rights that the
@@ -140,7 +140,7 @@ class Writer:
         if epoch != self.epoch:
             raise Fenced("another server has the journal now, and this one writes nothing more")
         if lines != given.before:
-            raise Refused(f"row {given.before + 1} was given out, and the journal has {lines} lines")
+            raise RefusedByStore(f"row {given.before + 1} was given out, and the journal has {lines} lines")
         raise Changed
 
     def halt(self, network: int, why: str) -> None:
@@ -164,13 +164,13 @@ class Writer:
 
 
 def values_of(given: Given, epoch: int, at: int) -> list[object]:
-    """What the table has of the rows of a network, one behind the other; Refused for one that isn't the next."""
+    """What the table has of the rows of a network, one behind the other; RefusedByStore for one that isn't the next."""
     values: list[object] = []
     more = given.network, epoch, at
     for number, row in enumerate(given.rows.decode().split("\n")[:-1], given.before + 1):
         fields = row.split("\t")
         if len(fields) != FIELDS or fields[0] != str(number):
-            raise Refused(f"row {number} was given out as {fields}")
+            raise RefusedByStore(f"row {number} was given out as {fields}")
         values += fields
         values += more
     return values

@@ -27,7 +27,7 @@ class Busy(Exception):
     """Nothing was written, since somebody else holds the journal, or it isn't reached: it can be tried again."""
 
 
-class Unknown(Exception):
+class UnknownOutcome(Exception):
     """Nobody knows whether the rows were written: the connection broke within the commit, or the waiting for another
     machine's disk was cancelled."""
 
@@ -36,7 +36,7 @@ class Gone(Exception):
     """The files of a journal aren't those any more that were opened: what is written may be nowhere."""
 
 
-class Refused(Exception):
+class RefusedByStore(Exception):
     """Why the tables don't take a row."""
 
 
@@ -77,7 +77,7 @@ class Tables(Protocol):
         """How the bytes of a field are written in a statement, whatever they are; `{}` stands for its column."""
 
     @property
-    def lines(self) -> Lines:
+    def lines(self) -> LineConditions:
         """How lines are told apart in a statement."""
 
     @property
@@ -134,7 +134,7 @@ def closed_at_the_end(tables: Reached, place: str) -> Iterator[Reached]:
 
 
 @dataclass(frozen=True)
-class Lines:
+class LineConditions:
     """What a statement says of lines, as conditions and values that indexes have.
 
     asks_for_a_plan  the line asked for a plan of a period that the network has
@@ -206,8 +206,8 @@ class Writer(Protocol):
     def write(self, given: Sequence[Given]) -> dict[int, str | None]:
         """Writes the rows of several networks in one commit. Gives why those of a network were refused, which halts it,
         or None for a network that another server has, or whose rights have changed since its program began. Busy if
-        nothing was written and it can be tried again, Unknown if nobody knows, Fenced if another server has the whole
-        journal."""
+        nothing was written and it can be tried again, UnknownOutcome if nobody knows, Fenced if another server has the
+        whole journal."""
 
     def look(self) -> None:
         """Gone if what was written isn't where the journal's name says. Nothing is being written meanwhile."""
@@ -247,7 +247,7 @@ class Head(Opened):
 
 
 @dataclass(frozen=True)
-class Seen:
+class SeenServers:
     """What a server sees of the others.
 
     server      itself, by the number of its start
@@ -292,13 +292,13 @@ class Members(Protocol):
     def faults(self) -> tuple[type[Exception], ...]:
         """What goes wrong with the store itself."""
 
-    def beat(self, is_leaving: bool) -> Seen:
+    def beat(self, is_leaving: bool) -> SeenServers:
         """Tells that this server is alive, and looks who else is and whose each network is. Replaced if a later start
         has its name."""
 
     def take(self, wanted: Sequence[tuple[int, int]]) -> dict[int, tuple[int, int]]:
         """Takes networks, each of which must still have an epoch, by one commit. Gives the epoch and the lines of those
-        that were taken; what is read afterwards can't be lost. Unknown if nobody knows."""
+        that were taken; what is read afterwards can't be lost. UnknownOutcome if nobody knows."""
 
     def history(self) -> str:
         """The past of the store that the last taking is in, as `Tables.read_after` tells it."""

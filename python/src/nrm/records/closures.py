@@ -67,7 +67,7 @@ class Closure(OfDeparture):
 
 
 @dataclass(frozen=True)
-class Reading(OfDeparture):
+class AvailabilityReading(OfDeparture):
     """Whether a product of a departure was open at a moment."""
     at: float
     is_open: bool
@@ -85,7 +85,7 @@ def closure_of(dates: Dates, departing: str, product: str, first: str, last: str
     return Closure(departs, product, begins, ends)
 
 
-def reading_of(dates: Dates, departing: str, product: str, read: str, available: str) -> Reading:
+def reading_of(dates: Dates, departing: str, product: str, read: str, available: str) -> AvailabilityReading:
     """The reading of a row; a ValueError says what is wrong with it."""
     departs = departure_of(dates, departing, product)
     at = moment_of(dates, departs, read, "on which it was read")
@@ -94,7 +94,7 @@ def reading_of(dates: Dates, departing: str, product: str, read: str, available:
     is_number = SEATS.fullmatch(available) is not None
     if not is_number and available.lower() not in OPEN + CLOSED:
         raise ValueError(f"{cut_short(available)!r} is no number of seats, and neither open nor closed")
-    return Reading(departs, product, at, int(available) > 0 if is_number else available.lower() in OPEN)
+    return AvailabilityReading(departs, product, at, int(available) > 0 if is_number else available.lower() in OPEN)
 
 
 def departure_of(dates: Dates, text: str, product: str) -> datetime.date:
@@ -106,7 +106,7 @@ def departure_of(dates: Dates, text: str, product: str) -> datetime.date:
 
 
 @dataclass(frozen=True)
-class Times:
+class ClosureTimes:
     """A file of times: its path, the headings of the departure, of the product and of the two fields that say the
     times, how its dates are read, whether fields may have line feeds, and other names of trains, which are the first of
     several fields of the product, by the ones that count."""
@@ -140,7 +140,7 @@ class Times:
         return list(closures_between(self.rows(reading_of, tell)))
 
 
-def closures_between(readings: Iterable[Reading]) -> Iterator[Closure]:
+def closures_between(readings: Iterable[AvailabilityReading]) -> Iterator[Closure]:
     """The closures that readings tell of. Between an open and a closed one it changed in the middle; before the first
     it was as at the first, and behind the last as at the last. Of two at one moment the closed one counts."""
     states: dict[tuple[datetime.date, str], dict[float, bool]] = defaultdict(dict)

@@ -61,7 +61,7 @@ def carried(rates: Rates) -> list[list[list[int]]]:
 
 
 @dataclass(frozen=True)
-class Estimate:
+class DemandEstimate:
     """The rates of a sale, in whole numbers as so many copies of its departures, with the name of each product by its
     text, and the path of an earlier network if there is one."""
     rates: Rates

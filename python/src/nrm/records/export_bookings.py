@@ -97,7 +97,7 @@ class Booking:
                 yield dataclasses.replace(self.request, seats=self.seats_standing)
 
 
-class Reading:
+class ExportReading:
     """Reads the rows of an export, one after the other."""
 
     def __init__(self, columns: ExportColumns, dates: Dates, rows: Sequence[LogRow]) -> None:
@@ -206,7 +206,7 @@ def bookings_in(path: str, columns: ExportColumns, order: str | None, is_multili
     rows, dates = rows_and_dates(log, columns.read(), order, tell)
     if columns.number:
         rows = each_once(rows, tell)
-    reading = Reading(columns, dates, rows)
+    reading = ExportReading(columns, dates, rows)
     if columns.cancels:
         tell(reading.texts_told(rows))
     pairing = Pairing(all_made(log, rows, reading.booking, most, tell), bool(columns.number), most)

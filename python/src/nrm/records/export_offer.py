@@ -14,7 +14,7 @@ from nrm.limits import MOST_FARE, MOST_LEGS, MOST_LEGS_OF_A_PRODUCT, MOST_PRODUC
 from nrm.network import is_whole
 from nrm.records.export_bookings import Booking
 from nrm.records.export_codes import Names, Parts
-from nrm.records.export_trains import Leg, Lines
+from nrm.records.export_trains import TrainLeg, TrainLines
 from nrm.records.fitting_names import fitting, free_name
 from nrm.records.log_rows import SEPARATORS, some_of, text_in
 
@@ -22,24 +22,24 @@ CENTS = 100
 
 
 @dataclass(frozen=True)
-class Product:
+class OfferedProduct:
     """A product: its text, the parts of its name, and its legs."""
     text: str
     parts: Parts
-    legs: tuple[Leg, ...]
+    legs: tuple[TrainLeg, ...]
 
 
 class Offer:
     """The legs and products of an export, by their texts."""
 
-    def __init__(self, bookings: Sequence[Booking], lines: Lines) -> None:
+    def __init__(self, bookings: Sequence[Booking], lines: TrainLines) -> None:
         self.legs = {it.text: it for it in lines.legs()}
-        self.products: dict[str, Product] = {}
+        self.products: dict[str, OfferedProduct] = {}
         for it in bookings:
             text = it.request.product
             if text not in self.products:
                 parts = Parts(it.train, it.stops[0], it.stops[-1], it.fare_class)
-                self.products[text] = Product(text, parts, tuple(lines.legs_of(it.train, it.stops)))
+                self.products[text] = OfferedProduct(text, parts, tuple(lines.legs_of(it.train, it.stops)))
         self.see_limits()
 
     def see_limits(self) -> None:

@@ -23,7 +23,7 @@ class Event:
     asked: str
 
 
-class Stream:
+class DepartureStream:
     """The events of a day of departure: with what was cancelled, or what stands alone. A booking that was cancelled in
     part is two parties."""
 

@@ -12,7 +12,7 @@ from nrm.records.log_rows import some_of
 
 
 @dataclass(frozen=True)
-class Leg:
+class TrainLeg:
     """A leg: its train, which may be none, its two stops, and those between at which it was joined."""
     train: str
     first: str
@@ -29,7 +29,7 @@ class Leg:
         return f"{self.text}{JOINED_AT}{', '.join(self.joined)}" if self.joined else self.text
 
 
-class Lines:
+class TrainLines:
     """The lines that bookings are on: of each train its stops in their order, of which some are joined, so that no leg
     begins there; or, where these are flights of which a journey says all stops, each two neighbours that one has."""
 
@@ -54,15 +54,15 @@ class Lines:
             known = ", ".join(sorted(stops))
             raise Stop(f"--join {unknown[0]}: no journey begins or ends there; the stops are {known}")
 
-    def legs(self) -> Iterator[Leg]:
+    def legs(self) -> Iterator[TrainLeg]:
         """All legs, train by train."""
         for train, pairs in self.neighbours.items():
             yield from (self.leg(train, *pair) for pair in pairs)
 
-    def leg(self, train: str, first: str, last: str) -> Leg:
+    def leg(self, train: str, first: str, last: str) -> TrainLeg:
         """The leg of a train between two of its stops."""
         order = self.order.get(train, [first, last])
-        return Leg(train, first, last, tuple(order[order.index(first) + 1:order.index(last)]))
+        return TrainLeg(train, first, last, tuple(order[order.index(first) + 1:order.index(last)]))
 
     def ends_joined(self, joined: Sequence[str]) -> Iterator[str]:
         """What is told of stops that were to be joined at which a train begins or ends: there is no other leg there."""
@@ -73,10 +73,10 @@ class Lines:
                 which = f" of {some_of(at_end)}" if len(at_end) < len(trains) else ""
                 yield f"--join {stop} joins nothing{which}: it is an end of the line"
 
-    def legs_of(self, train: str, stops: Sequence[str]) -> list[Leg]:
+    def legs_of(self, train: str, stops: Sequence[str]) -> list[TrainLeg]:
         """The legs of a journey, from its first stop to its last: all of a leg of which it needs a part."""
         if self.are_flights:
-            return [Leg(train, *pair) for pair in zip(stops, stops[1:])]
+            return [TrainLeg(train, *pair) for pair in zip(stops, stops[1:])]
         place = {it: at for at, it in enumerate(self.order[train])}
         return [self.leg(train, first, last) for first, last in self.neighbours[train]
                 if place[first] < place[stops[-1]] and place[stops[0]] < place[last]]

@@ -25,7 +25,7 @@ class Fault:
 
 
 @dataclass(frozen=True)
-class Refusal:
+class RowRefusal:
     """A row that is refused, with its faults, in a file of some version; the first is the one that the program tells.
     Where the file as a whole is refused, the row has no fields."""
     row: Row
@@ -46,9 +46,9 @@ class Refusal:
             yield f"        {fault.advice}"
 
 
-def of_no_row(number: int, fault: Fault, version: int) -> Refusal:
+def of_no_row(number: int, fault: Fault, version: int) -> RowRefusal:
     """A refusal of the file as a whole, told of the number of a row that isn't there."""
-    return Refusal(Row(number, 0, []), [fault], version)
+    return RowRefusal(Row(number, 0, []), [fault], version)
 
 
 def name_of_field(kind: str, at: int, version: int) -> str:
@@ -101,12 +101,12 @@ class Explanation:
             return 2 if any(is_refund(row) for row in self.rows) else 1
         return 1 if "".join(self.first_periods.fields[3:]).strip() in ("", "1") else 2
 
-    def refusals(self) -> Iterator[Refusal]:
+    def refusals(self) -> Iterator[RowRefusal]:
         """The rows that are refused, in their order."""
         for row in self.rows:
             faults = list(self.faults(row))
             if faults:
-                yield Refusal(row, faults, self.version)
+                yield RowRefusal(row, faults, self.version)
             if faults and is_no_csv(row.fields[0]):
                 return  # what is wrong with the file as a whole is told once
             self.take(row)
@@ -281,7 +281,7 @@ def faulty_names(row: Row) -> Iterator[Fault]:
             yield Fault(5, at, how_to_mend_a_name(row.fields[at]))
 
 
-def refusals_of(data: bytes) -> list[Refusal]:
+def refusals_of(data: bytes) -> list[RowRefusal]:
     """The refusals of a network file's bytes."""
     if len(data) > MOST_NETWORK_BYTES:
         fault = Fault(13, None, f"it has more than {MOST_NETWORK_BYTES} bytes: leave out rows of demand that are 0, "

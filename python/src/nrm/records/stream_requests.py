@@ -19,7 +19,7 @@ MOST_NAMED = 5
 
 
 @dataclass
-class Asked:
+class StreamRequests:
     """What a stream asked for.
 
     seats     by product and period
@@ -50,9 +50,9 @@ class Asked:
                 yield f"{said(path)}: lines {which} {len(lines)}, which {why}; the first is line {lines[0]}"
 
 
-def asked_in(path: str, network: Network) -> Asked:
+def asked_in(path: str, network: Network) -> StreamRequests:
     """What the stream at a path asked for."""
-    asked, period = Asked(), 1
+    asked, period = StreamRequests(), 1
     see_that_all_of_it_counts(path)
     with open(path, "rb") as stream:
         for number, line in enumerate(stream, 1):
@@ -72,7 +72,7 @@ def asked_in(path: str, network: Network) -> Asked:
     return asked
 
 
-def take_request(asked: Asked, product: str, period: int, seats: int, network: Network) -> None:
+def take_request(asked: StreamRequests, product: str, period: int, seats: int, network: Network) -> None:
     """Takes a request."""
     if product in network.products:
         asked.seats[product, period] += seats
@@ -90,7 +90,7 @@ def see_that_all_of_it_counts(path: str) -> None:
                    "leaves them out, and `nrm-tools journal look` writes the others")
 
 
-def histories_of(network: Network, asked: Sequence[Asked]) -> list[Mapping[str, Sequence[int]]]:
+def histories_of(network: Network, asked: Sequence[StreamRequests]) -> list[Mapping[str, Sequence[int]]]:
     """What each of some streams asked for, by product, in each period."""
     periods = range(1, network.periods + 1)
     return [{name: [it.seats[name, period] for period in periods] for name in network.products} for it in asked]

@@ -20,7 +20,7 @@ Value = tuple[int, int, int]  # what is kept: its worth, its products, and the f
 
 
 @dataclass(frozen=True)
-class Limits:
+class FileLimits:
     """How many legs and products a file takes."""
     legs: int = MOST_LEGS
     products: int = MOST_PRODUCTS
@@ -38,7 +38,7 @@ class Proposal:
     parts: list[Part]
 
 
-def proposal(part: Part, products: Mapping[str, Product], limits: Limits = Limits()) -> Proposal:
+def proposal(part: Part, products: Mapping[str, Product], limits: FileLimits = FileLimits()) -> Proposal:
     """What to leave out of a part."""
     sold = [products[it] for it in part.products]
     best: tuple[Value, list[list[str]]] | None = None
@@ -56,7 +56,7 @@ def proposal(part: Part, products: Mapping[str, Product], limits: Limits = Limit
 # Orders
 
 
-def orders(legs: Sequence[str], sold: Sequence[Product], limits: Limits) -> Iterator[Sequence[str]]:
+def orders(legs: Sequence[str], sold: Sequence[Product], limits: FileLimits) -> Iterator[Sequence[str]]:
     """Orders of the legs that are tried: that of the file, and from as many legs as there is time for the one in which
     each leg has most in common with those before it."""
     yield legs
@@ -91,7 +91,7 @@ def attracted(start: str, legs: Sequence[str], on_leg: Mapping[str, Sequence[Pro
 # Cuts of an order
 
 
-def cut_of(order: Sequence[str], sold: Sequence[Product], limits: Limits) -> tuple[Value, list[list[str]]]:
+def cut_of(order: Sequence[str], sold: Sequence[Product], limits: FileLimits) -> tuple[Value, list[list[str]]]:
     """The cut of an order into pieces that keeps most, with what it keeps."""
     place = {leg: at for at, leg in enumerate(order)}
     ending: list[list[tuple[int, int]]] = [[] for _ in order]  # by the last place of a product: the first, its worth
@@ -117,7 +117,7 @@ def cut_of(order: Sequence[str], sold: Sequence[Product], limits: Limits) -> tup
     return best[-1], pieces[::-1]
 
 
-def kept_in(pieces: Sequence[Sequence[str]], sold: Sequence[Product], limits: Limits) -> Iterator[str]:
+def kept_in(pieces: Sequence[Sequence[str]], sold: Sequence[Product], limits: FileLimits) -> Iterator[str]:
     """The products that are within a piece, of each piece as many as a file takes, the dearest."""
     piece_of = {leg: at for at, piece in enumerate(pieces) for leg in piece}
     within: list[list[Product]] = [[] for _ in pieces]

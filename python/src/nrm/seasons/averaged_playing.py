@@ -30,7 +30,7 @@ def periods_of(season: DrawnSeason) -> list[list[str]]:
     return periods
 
 
-class Desk:
+class PriceDesk:
     """What is left of the seats as a session sells what it is asked for."""
 
     def __init__(self, network: Network, dialogue: Dialogue, clock: ContextManager[object]) -> None:
@@ -68,7 +68,7 @@ def replies_by_prices(network: Network, season: DrawnSeason, program: Program, p
     bound in the last is one of what was asked for alone. The clock counts the time in the session."""
     dialogue = Dialogue(program, "first", path)
     try:
-        desk, replies = Desk(network, dialogue, clock), list[bytes]()
+        desk, replies = PriceDesk(network, dialogue, clock), list[bytes]()
         for period, lines in enumerate(periods_of(season), 1):
             replies += [NEW_PRICES] * (period > 1) + desk.sell(lines, prices_at(period, desk.left))
         with clock:

@@ -61,7 +61,7 @@ class Workers:
     tell: Callable[[str], None]
 
 
-class Wanted(Protocol):
+class WantedSeasons(Protocol):
     """Seasons on the bytes of a network file that are to be played, a task of numbers at a time, and are kept."""
     source: bytes
 
@@ -72,7 +72,8 @@ class Wanted(Protocol):
         """Keeps what was played of a task."""
 
 
-Play = Callable[[Sequence[Wanted], Callable[[int], None]], "Spent"]  # it tells on the way how many seasons are done
+# it tells on the way how many seasons are done
+Play = Callable[[Sequence[WantedSeasons], Callable[[int], None]], "Spent"]
 
 
 class Progress:
@@ -206,15 +207,15 @@ class Waiting:
     def __init__(self, workers: Workers) -> None:
         self.ended = distributed.as_completed(with_results=True, raise_errors=False)
         self.patience, self.late, self.tell = workers.patience, min(LATE, workers.patience / 2), workers.tell
-        self.studies: dict[Future, Wanted] = {}
+        self.studies: dict[Future, WantedSeasons] = {}
         self.since, self.is_told = time.monotonic(), False
 
-    def add(self, future: Future, study: Wanted) -> None:
+    def add(self, future: Future, study: WantedSeasons) -> None:
         """Waits for a task too."""
         self.studies[future] = study
         self.ended.add(future)
 
-    def next(self) -> tuple[Wanted, object]:
+    def next(self) -> tuple[WantedSeasons, object]:
         """The next task that comes back: its study, and what a worker gave or the fault that it met."""
         while not self.ended.has_ready():
             self.look()
@@ -271,8 +272,8 @@ def players(settings: Settings, words: Sequence[str], workers: Workers) -> Itera
         yield functools.partial(played_all, client, settings, words, workers)
 
 
-def played_all(client: Client, settings: Settings, words: Sequence[str], workers: Workers, studies: Sequence[Wanted],
-               done: Callable[[int], None]) -> Spent:
+def played_all(client: Client, settings: Settings, words: Sequence[str], workers: Workers,
+               studies: Sequence[WantedSeasons], done: Callable[[int], None]) -> Spent:
     """Plays what is to be played: so many tasks ahead of the workers, and as each ends its rows are kept."""
     tasks = ((study, numbers) for study in studies for numbers in study.tasks())
     spent, here, waiting = Spent(), maker(Program.found(words)), Waiting(workers)

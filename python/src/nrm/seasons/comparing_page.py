@@ -25,7 +25,7 @@ DEMAND_IN_WORDS = {"histories": "the requests of a history, each as likely",
 
 
 @dataclass(frozen=True)
-class Picture:
+class SeasonPicture:
     """A picture: the name of its file, its title, what it shows in words, and what draws it."""
     name: str
     title: str
@@ -69,7 +69,7 @@ def about(seasons: int, settings: Settings, results: Mapping[str, Results]) -> I
 # Pictures
 
 
-def pictures(study: Study) -> Iterator[Picture]:
+def pictures(study: Study) -> Iterator[SeasonPicture]:
     """The pictures of a study."""
     if study.seats:
         yield of_authorised(study, *study.seats)
@@ -87,36 +87,39 @@ def pictures(study: Study) -> Iterator[Picture]:
                 yield of_differences(f"differences-{mode}-{other}{number}", title, mode, it.differences(mode, other))
 
 
-def of_shares(spans: Sequence[Span]) -> Picture:
+def of_shares(spans: Sequence[Span]) -> SeasonPicture:
     """The share of the bound in the seasons of each mode."""
     from nrm.pages import charts
     marks = "; ".join(f"{name} {per_cent(mark, 100)}" for name, _, _, mark in spans[:MOST_MEANS])
     words = ("From the 5th to the 95th of a hundred seasons thin, from the 25th to the 75th thick, the mark at the "
              f"share of all seasons together: {marks}.")
-    return Picture("shares", "Share of the bound by mode", words, lambda: charts.spans(spans, "share of the bound, %"))
+    return SeasonPicture("shares", "Share of the bound by mode", words,
+                         lambda: charts.spans(spans, "share of the bound, %"))
 
 
-def of_differences(name: str, title: str, mode: str, values: Sequence[int]) -> Picture:
+def of_differences(name: str, title: str, mode: str, values: Sequence[int]) -> SeasonPicture:
     """By how much a mode is ahead of another, season by season."""
     from nrm.pages import charts
     words = (f"Differences from {min(values):,} to {max(values):,}, on the mean {amount(sum(values) / len(values))}, "
              f"which the broken line shows; {mode} is ahead in {per_cent(sum(v > 0 for v in values), len(values))} of "
              "the seasons, which are blue.")
-    return Picture(name, title, words, lambda: charts.histogram(values, "currency units", "seasons"))
+    return SeasonPicture(name, title, words, lambda: charts.histogram(values, "currency units", "seasons"))
 
 
-def of_authorised(study: Study, leg: str, seats: Mapping[str, int]) -> Picture:
+def of_authorised(study: Study, leg: str, seats: Mapping[str, int]) -> SeasonPicture:
     """What each mode earns less than with the authorised seats that are its best."""
     from nrm.pages import charts
     courses = [(mode, sorted(points_of(it, seats))) for mode, it in study.rankings.items()]
     tops = "; ".join(f"under {mode} at {seats[it.best]}" for mode, it in study.rankings.items())
     words = ("What a season brings beside the authorised seats that earn most in each mode, with its interval at 95 "
              f"per cent for all. Most is earned {tops}.")
-    return Picture("authorised", f"What is earned by the authorised seats of {with_text(leg, study.texts)}", words,
-                   lambda: charts.courses(courses, f"authorised seats of {leg}", "beside the most, currency units"))
+    title = f"What is earned by the authorised seats of {with_text(leg, study.texts)}"
+    return SeasonPicture("authorised", title, words,
+                         lambda: charts.courses(courses, f"authorised seats of {leg}",
+                                                "beside the most, currency units"))
 
 
-def of_networks(study: Study) -> Picture:
+def of_networks(study: Study) -> SeasonPicture:
     """What each network earns less than the best, in each mode."""
     from nrm.pages import charts
     named = [(study.named(name, mode), mode, *beside_best(it, name))
@@ -124,8 +127,8 @@ def of_networks(study: Study) -> Picture:
     tops = "; ".join(f"under {mode} by {it.best}" for mode, it in study.rankings.items())
     words = ("What a season brings with each network beside the one that earns most in the mode, with its interval at "
              f"95 per cent for all. Most is earned {tops}.")
-    return Picture("networks", "What each network earns beside the best", words,
-                   lambda: charts.intervals(named, "beside the most, currency units a season"))
+    return SeasonPicture("networks", "What each network earns beside the best", words,
+                         lambda: charts.intervals(named, "beside the most, currency units a season"))
 
 
 def beside_best(ranking: Ranking, name: str) -> tuple[float, float]:
@@ -146,7 +149,7 @@ def points_of(ranking: Ranking, seats: Mapping[str, int]) -> Iterator[tuple[floa
 # The page
 
 
-def page(first: str, made_of: Made, sentences: Sequence[str], tables: Sequence[Table], shown: Sequence[Picture],
+def page(first: str, made_of: Made, sentences: Sequence[str], tables: Sequence[Table], shown: Sequence[SeasonPicture],
          drawn: Mapping[str, str]) -> str:
     """The page of a run, with what it says first and what it was made of at its front: its pictures are those of which
     there is the text of an SVG file, by their names."""

@@ -54,7 +54,7 @@ class Outcome:
         return sum(max(0, network.legs[leg].seats - seats) for leg, seats in (self.shown or {}).items())
 
 
-class Clock:
+class ProgramTime:
     """Counts the time that is spent in the program, in seconds."""
 
     def __init__(self) -> None:
@@ -122,7 +122,7 @@ def booking_of(mode: str, reply: bytes) -> int:
 
 
 def replies_with_cancellations(program: Program, mode: str, path: str, season: DrawnSeason,
-                               clock: Clock) -> tuple[list[bytes], set[int]]:
+                               clock: ProgramTime) -> tuple[list[bytes], set[int]]:
     """The replies to a season's lines, without those to its cancellations, and which lines' bookings were cancelled."""
     with clock:
         playing = Cancelling(season, Dialogue(program, mode, path))
@@ -158,7 +158,8 @@ def letters_of(mode: str, season: DrawnSeason, replies: list[bytes]) -> bytearra
     return letters
 
 
-def played(network: Network, season: DrawnSeason, program: Program, mode: str, path: str, clock: Clock) -> Outcome:
+def played(network: Network, season: DrawnSeason, program: Program, mode: str, path: str,
+           clock: ProgramTime) -> Outcome:
     """The outcome of a season in a mode, by a run of the program on the network file at a path."""
     cancelled: set[int] = set()
     if season.cancellations:
@@ -215,10 +216,10 @@ class Player:
     """Plays seasons of a network: keeps its file, and those without one history, in a folder."""
 
     def __init__(self, source: bytes, settings: Settings, program: Program, folder: str,
-                 clock: Clock | None = None) -> None:
+                 clock: ProgramTime | None = None) -> None:
         self.source, self.settings, self.program, self.folder = source, settings, program, folder
         self.network, self.identity = network_in(source)
-        self.clock = clock or Clock()
+        self.clock = clock or ProgramTime()
         self.averaged = Averaged(self.network, program, folder, self.clock)
 
     def path_without(self, history: int | None) -> str:

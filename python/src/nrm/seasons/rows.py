@@ -24,7 +24,7 @@ from nrm import Stop, bytes_in, said
 from nrm.network import MOST_DIGITS, Network
 from nrm.program import Program
 from nrm.seasons.drawing import DrawnSeason, Settings
-from nrm.seasons.playing import Clock, Outcome, Player
+from nrm.seasons.playing import Outcome, Player, ProgramTime
 from nrm.writing_files import Output, opened
 
 if TYPE_CHECKING:
@@ -166,7 +166,7 @@ def play_batch(source: bytes, settings: Settings, words: Sequence[str], numbers:
 
 def batch_of(source: bytes, settings: Settings, words: Sequence[str], numbers: Sequence[int]) -> Batch:
     """Plays the seasons of some numbers. A Stop is given back as a text, since it may have far to go."""
-    clock, rows, by = Clock(), list[str](), Maker(platform.node(), package=PACKAGE_SUM)
+    clock, rows, by = ProgramTime(), list[str](), Maker(platform.node(), package=PACKAGE_SUM)
     try:
         program = Program.found(words)
         by = maker(program)

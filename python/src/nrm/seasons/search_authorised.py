@@ -10,7 +10,7 @@ from nrm.limits import MOST_SEATS
 from nrm.network import Network
 from nrm.pages.tables import Cell, Table, with_text
 from nrm.seasons.overbooking_rules import Seats, Units
-from nrm.seasons.search_fields import Field, Line, Rows
+from nrm.seasons.search_fields import Field, ProgressLine, Rows
 from nrm.seasons.search_judging import Judged
 
 FIRST_STEPS, LATER_STEPS = (4, 2, 1), (2, 1)
@@ -46,7 +46,7 @@ def rows_with(network: Network, seats: Mapping[str, int]) -> Rows:
 class Search:
     """Authorised seats are tried on the same seasons, one number moved at a time, as long as more is earned."""
 
-    def __init__(self, network: Network, units: Units, field: Field, line: Line) -> None:
+    def __init__(self, network: Network, units: Units, field: Field, line: ProgressLine) -> None:
         self.network, self.field, self.line = network, field, line
         self.units = [legs for legs in units if any(network.products_on(it) for it in legs)]  # of others none is sold
         self.at = ""

@@ -129,7 +129,7 @@ class Field:
         return sum(it.earned for it in self.of(rows))
 
 
-class Line:
+class ProgressLine:
     """How far a search is, on one line of a terminal, or else in a line now and then."""
 
     def __init__(self, tell: Callable[[str], None]) -> None:

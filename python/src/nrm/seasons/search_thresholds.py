@@ -9,7 +9,7 @@ from nrm.legs.fare_groupings import groupings
 from nrm.network import Network
 from nrm.pages.tables import Table, with_text
 from nrm.program import Program
-from nrm.seasons.search_fields import Field, Line, Rows
+from nrm.seasons.search_fields import Field, ProgressLine, Rows
 
 OF_FILE, FOUND = "the file", "found"
 Thresholds = Mapping[str, "tuple[int, ...]"]  # by leg
@@ -36,7 +36,7 @@ def rows_of_thresholds(network: Network, thresholds: Thresholds) -> Rows:
 class ThresholdSearch:
     """Proposals are tried on the same seasons: each on all legs, and those of each leg in the place of the best."""
 
-    def __init__(self, network: Network, proposals: Mapping[str, Thresholds], field: Field, line: Line) -> None:
+    def __init__(self, network: Network, proposals: Mapping[str, Thresholds], field: Field, line: ProgressLine) -> None:
         self.network, self.proposals, self.field, self.line = network, proposals, field, line
         self.at = "all legs by one rule"
 

@@ -13,7 +13,7 @@ from nrm.program import Program
 from nrm.seasons import cluster
 from nrm.seasons.drawing import Settings
 from nrm.seasons.rows import maker
-from nrm.seasons.search_fields import Earned, Field, Line, Play, Rows, Tried, Tries, made_by
+from nrm.seasons.search_fields import Earned, Field, Play, ProgressLine, Rows, Tried, Tries, made_by
 from nrm.seasons.search_judging import Judged
 
 TASKS_OF_A_WORKER, TASKS_OF_A_CLUSTER = 2, 64  # of the seasons of a try
@@ -32,7 +32,7 @@ class Trials:
     def __init__(self, play: Play, tries: Tries, lengths: Lengths, tell: Callable[[str], None]) -> None:
         self.seen = Field(play, tries, range(lengths.seen))
         self.unseen = Field(play, tries, range(lengths.seen, lengths.seen + lengths.judged))
-        self.line, self.is_judged = Line(tell), False
+        self.line, self.is_judged = ProgressLine(tell), False
 
     def judged(self, choices: Mapping[str, Rows], found: str, base: str) -> Judged:
         """What each of some choices earns in the other seasons, beside one of them."""

@@ -23,27 +23,27 @@ UNFIT = "the replies don't fit the lines"
 
 
 @dataclass(frozen=True)
-class Asked:
+class SessionLine:
     """A line that the program is given, the number of the stream's line that it is or follows, and if it was put in."""
     number: int
     line: str
     is_put_in: bool
 
 
-class LookedAt:
+class StreamWithLooks:
     """The lines of a stream, and the lines with what is put in."""
 
     def __init__(self, data: bytes, network: Network) -> None:
         lines = data.split(b"\n")
         self.lines = [it.removesuffix(b"\r").decode("latin-1") for it in (lines if lines[-1] else lines[:-1])]
         looks = ["plan", *[f"leg {leg}" for leg in network.legs], "hindsight"]
-        self.points, self.asked = [(0, "opening")], [Asked(0, look, True) for look in looks]
+        self.points, self.asked = [(0, "opening")], [SessionLine(0, look, True) for look in looks]
         for number, line in enumerate(self.lines, 1):
-            self.asked.append(Asked(number, line, False))
+            self.asked.append(SessionLine(number, line, False))
             found = re.fullmatch(r"reoptimise ([1-9][0-9]?)", line)
             if found and int(found[1]) <= network.periods or number == len(self.lines):
                 self.points.append((number, f"period {found[1]}" if found else "end"))
-                self.asked += [Asked(number, look, True) for look in looks]
+                self.asked += [SessionLine(number, look, True) for look in looks]
 
     def data(self) -> bytes:
         """The stream with the lines put in."""
@@ -66,10 +66,10 @@ class Point:
     withheld: int | None = None
 
 
-class Course:
+class ModeCourse:
     """What one mode answers: the points, the seats sold on one leg behind each line, and what was asked and refused."""
 
-    def __init__(self, mode: str, network: Network, stream: LookedAt, leg: str, told: Sequence[bytes]) -> None:
+    def __init__(self, mode: str, network: Network, stream: StreamWithLooks, leg: str, told: Sequence[bytes]) -> None:
         self.mode, self.network, self.leg = mode, network, leg
         self.points: list[Point] = []
         self.bookings: dict[int, tuple[str, int]] = {}
@@ -83,7 +83,7 @@ class Course:
         except (LookupError, ValueError):
             raise Stop(UNFIT)
 
-    def look(self, asked: Asked, reply: bytes) -> None:
+    def look(self, asked: SessionLine, reply: bytes) -> None:
         """Takes the reply to a line that was put in."""
         answer = answer_of(reply)
         if asked.line == "plan" and isinstance(answer, Plan):
@@ -99,7 +99,7 @@ class Course:
         else:
             raise NoAnswer(UNFIT)
 
-    def follow(self, asked: Asked, reply: bytes) -> None:
+    def follow(self, asked: SessionLine, reply: bytes) -> None:
         """Counts a line of the stream and its reply."""
         verb, *words = asked.line.split(" ")
         if verb in ("book", "cancel") and reply not in (b"bad\n", b"bad"):
@@ -128,9 +128,9 @@ class Course:
 class Season:
     """A season of a network: its stream, the leg whose seats are looked at, and its course in each mode."""
     network: Network
-    stream: LookedAt
+    stream: StreamWithLooks
     leg: str
-    courses: list[Course]
+    courses: list[ModeCourse]
     texts: Mapping[str, str] = field(default_factory=dict)  # that names stand for
 
     @classmethod
@@ -138,22 +138,22 @@ class Season:
                texts: Mapping[str, str] | None = None) -> Season:
         """The season of the files at two paths, on one leg, or on the one of which most seats were asked for."""
         network = Network.read(path)
-        stream = LookedAt(bytes_in(stream_path), network)
+        stream = StreamWithLooks(bytes_in(stream_path), network)
         leg = leg or leg_most_asked_for(network, stream)
         if leg not in network.legs:
             raise Stop(f"there is no leg {leg}")
         data = stream.data()
-        courses = [Course(mode, network, stream, leg, program.replies(mode, path, data)) for mode in MODES]
+        courses = [ModeCourse(mode, network, stream, leg, program.replies(mode, path, data)) for mode in MODES]
         return cls(network, stream, leg, courses, texts or {})
 
 
-def leg_most_asked_for(network: Network, stream: LookedAt) -> str:
+def leg_most_asked_for(network: Network, stream: StreamWithLooks) -> str:
     """The leg of which most seats were asked for, sold or not."""
     seats = seats_asked_for(network, stream)
     return max(seats, key=lambda it: seats[it])
 
 
-def seats_asked_for(network: Network, stream: LookedAt) -> dict[str, int]:
+def seats_asked_for(network: Network, stream: StreamWithLooks) -> dict[str, int]:
     """The seats of each leg that were asked for, sold or not."""
     seats = dict.fromkeys(network.legs, 0)
     for line in stream.lines:
@@ -188,7 +188,7 @@ def tables(season: Season, decimal: bool = False) -> Iterator[Table]:
                 ["product", "requests", *MODES], requests, decimal)
 
 
-def seats_table(season: Season, course: Course, decimal: bool) -> Table:
+def seats_table(season: Season, course: ModeCourse, decimal: bool) -> Table:
     """The seats of the leg that are sold, left and protected in a mode."""
     leg = season.network.legs[season.leg]
     authorised = "" if leg.authorised == leg.seats else f", {leg.seats_in_words()},"

@@ -11,7 +11,7 @@ from nrm.pages.figures import (BLACK, BLUE, GREEN, ORANGE, PURPLE, SETTINGS, SHA
                                Figure, in_amounts, label, panels, style, titled)
 from nrm.pages.tables import with_text
 from nrm.seasons.results import per_cent
-from nrm.seasons.season_course import Course, Season
+from nrm.seasons.season_course import ModeCourse, Season
 
 Look = tuple[str, str]  # a colour and a hatch
 BANDS: list[Look] = [(VERMILLION, "////"), (ORANGE, "----"), (GREEN, "\\\\\\\\"), (YELLOW, "||||"), (PURPLE, "xxxx"),
@@ -68,7 +68,7 @@ def bid_prices(season: Season) -> Figure:
     return figure
 
 
-def bands(course: Course, authorised: int) -> tuple[list[int], list[tuple[int, ...]]]:
+def bands(course: ModeCourse, authorised: int) -> tuple[list[int], list[tuple[int, ...]]]:
     """A leg's authorised seats behind each line that changes them, with the numbers of these lines: from the top those
     protected for bucket 1, for buckets 1 and 2, and so on, then those left to all, then those sold."""
     levels: Sequence[int] = ()
@@ -109,7 +109,7 @@ def seats(season: Season) -> Figure:
     return figure
 
 
-def draw_bands(axis: Axes, course: Course, authorised: int, looks: Sequence[Look]) -> None:
+def draw_bands(axis: Axes, course: ModeCourse, authorised: int, looks: Sequence[Look]) -> None:
     """Draws the seats of a leg in a mode into a panel."""
     numbers, found = bands(course, authorised)
     top = [authorised] * len(numbers)

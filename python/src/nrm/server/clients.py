@@ -26,7 +26,7 @@ LOOK = "look"  # the right that one needs who gave a token and asks for the stat
 
 
 @dataclass(frozen=True)
-class Limits:
+class ClientLimits:
     """What ends waiting, and what bounds memory.
 
     clients  the most at a time
@@ -48,7 +48,7 @@ class Limits:
         return max(1, self.clients - max(1, self.clients // 10))
 
 
-class Session(Protocol):
+class ClientSession(Protocol):
     """What a client needs of the run of its network's program."""
     is_full: bool
 
@@ -59,9 +59,9 @@ class Session(Protocol):
         """Tells the program that a client is gone."""
 
 
-class Hall(Protocol):
+class ClientHall(Protocol):
     """What a client needs of the server that it came to."""
-    limits: Limits
+    limits: ClientLimits
     loop: Loop
     tokens: Tokens
     counters: Counters
@@ -88,7 +88,7 @@ class Client:
     is_passed = False  # by another server, so that it isn't passed on once more
     asked = b""  # what came until its network was known, as it came
 
-    def __init__(self, hall: Hall, connection: socket.socket, address: str = HERE,
+    def __init__(self, hall: ClientHall, connection: socket.socket, address: str = HERE,
                  context: ssl.SSLContext | None = None) -> None:
         connection.setblocking(False)
         if connection.family != socket.AF_UNIX:
@@ -102,7 +102,7 @@ class Client:
         self.is_to_give_token = hall.tokens.access is not None and address != HERE
         self.may_give_token = True
         self.is_refused = False  # the answer to its wrong token waits
-        self.session: Session | None = None
+        self.session: ClientSession | None = None
         self.network: str | None = None  # its name, once it is known
         self.asks_status = self.is_told = False  # whether that it is closed was told
         self.place = -1  # none yet
@@ -279,7 +279,7 @@ class Client:
         self.hall.leave(self)
         return self.socket, self.asked
 
-    def let_in(self, session: Session, place: int, data: bytes) -> None:
+    def let_in(self, session: ClientSession, place: int, data: bytes) -> None:
         """Is at a place of its network's program, which gets what came so far."""
         self.session, self.place, self.is_waiting = session, place, False
         for at in range(0, len(data), MOST):

@@ -16,17 +16,17 @@ from nrm.journal.networks import network_in
 from nrm.journal.plans_due import Standing, missed, standings
 from nrm.journal.stores import Opened, Tables, Writer
 from nrm.server.access import CLOCK
-from nrm.server.clients import Client, Hall
+from nrm.server.clients import Client, ClientHall
 from nrm.server.event_log import Events
 from nrm.server.own_client import Own
-from nrm.server.plan_outcome import Outcome, outcome_of
+from nrm.server.plan_outcome import PlanOutcome, outcome_of
 
 AT_ONCE = 4  # networks for which plans are made at a time
 PAUSE = 60.0  # the seconds before it is tried again
 MOST_SKIPPED = 5  # seconds in which rows were being written, before all are looked at all the same
 
 
-class Keeper(Hall, Protocol):
+class ClockKeeper(ClientHall, Protocol):
     """What the clock needs of its server, beside what a client does."""
     events: Events
     reader: Tables
@@ -46,7 +46,7 @@ class Keeper(Hall, Protocol):
 
 
 @dataclass(frozen=True)
-class Asked:
+class AskedPlan:
     """What was sent for a network: where it stood, the periods that were left out, and when."""
     standing: Standing
     missed: list[int]
@@ -61,7 +61,7 @@ class Clock:
     time   the seconds since 1970 began
     """
 
-    def __init__(self, hall: Keeper, every: int = 0, time: Callable[[], float] = time.time) -> None:
+    def __init__(self, hall: ClockKeeper, every: int = 0, time: Callable[[], float] = time.time) -> None:
         self.hall, self.every, self.time = hall, 1000 * every, time
         self.now = 0
         self.version = self.rows_version = -1  # of the journal, as others and as all have written it
@@ -71,7 +71,7 @@ class Clock:
         self.next: list[tuple[int, int]] = []  # a heap of the same, in which there may be more
         self.due: set[int] = set()
         self.quiet: dict[int, int] = {}  # networks without lines since the last plan, and how many these are
-        self.asked: dict[int, Asked] = {}
+        self.asked: dict[int, AskedPlan] = {}
         self.again: dict[int, float] = {}  # when it may be tried again, by the loop's clock
         self.given_up: dict[int, int] = {}  # the period that has no plan
         hall.loop.looks.append(self.look)
@@ -184,7 +184,7 @@ class Clock:
         """Asks for a plan, with a look before and behind it."""
         own = Own(self.hall, CLOCK, lambda own, why: self.over(standing.network, own, why))
         left_out = missed(self.hall.reader, standing, self.now)
-        self.asked[standing.network] = Asked(standing, left_out, self.hall.loop.now)
+        self.asked[standing.network] = AskedPlan(standing, left_out, self.hall.loop.now)
         self.hall.clients.add(own)
         own.enter(standing.name, f"desk {CLOCK.name}\nplan\nreoptimise {standing.period}\nplan\n".encode())
 
@@ -198,7 +198,7 @@ class Clock:
             self.look_at(network)
             self.ask_some()
 
-    def settle(self, asked: Asked, outcome: Outcome) -> None:
+    def settle(self, asked: AskedPlan, outcome: PlanOutcome) -> None:
         """Tells what became of a plan; one that failed is tried again, unless it would fail again."""
         network, name, period = asked.standing.network, asked.standing.name, asked.standing.period
         is_again = outcome.fault is not None and not outcome.fails_again

@@ -42,7 +42,7 @@ Kind = Tuple[object, ...]
 
 
 @dataclass(frozen=True)
-class Log:
+class LogForm:
     """How the log is written, and the least level that is told."""
     form: str = "text"
     level: str = INFO
@@ -55,7 +55,7 @@ class Since:
     fields: Fields = field(default_factory=dict)
 
 
-class Clock(Protocol):
+class SecondsClock(Protocol):
     """The clock that says when a second is over."""
     now: float
 
@@ -66,11 +66,11 @@ class Clock(Protocol):
 class Events:
     """Tells events, as often as they may be told."""
 
-    def __init__(self, clock: Clock, log: Log = Log(), put: Callable[[str], bool] | None = None,
+    def __init__(self, clock: SecondsClock, log: LogForm = LogForm(), put: Callable[[str], bool] | None = None,
                  wall: Callable[[], int] = time.time_ns) -> None:
         self.clock, self.form, self.wall = clock, FORMS[log.form], wall
         self.most = LEVELS.index(log.level)
-        self.put = put or Output().put
+        self.put = put or LogOutput().put
         self.told: Dict[Kind, Since] = {}  # within the last second
         self.untold = 0
 
@@ -158,7 +158,7 @@ def systemd_text_of(told: Fields) -> str:
 FORMS: Mapping[str, Callable[[Fields], str]] = {"text": text_of, "json": json.dumps, "systemd": systemd_text_of}
 
 
-class Output:
+class LogOutput:
     """Standard error, if this process has one, written without waiting for who reads it."""
 
     def __init__(self) -> None:

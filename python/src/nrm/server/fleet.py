@@ -11,15 +11,14 @@ from typing import Callable, Protocol, Sequence
 
 from nrm import Stop
 from nrm.journal.networks import file_of
-from nrm.journal.stores import Head, Member, Named, Opened, Replaced, Seen, Store
+from nrm.journal.stores import Head, Member, Named, Opened, Replaced, SeenServers, Store
 from nrm.server.counters import Counters
 from nrm.server.event_log import Events
 from nrm.server.fleet_owners import MOVES, preferred, wanted_of
-from nrm.server.journal_asking import Asker, Feed, Rows, Worker
+from nrm.server.journal_asking import Asker, Feed, RowPieces, Worker
 from nrm.server.loop import Loop
 from nrm.server.sessions import ANSWERS, FOLLOWS, RESTS, Session
-from nrm.server.status_text import Share
-from nrm.server.status_text import Fleet as FleetStatus
+from nrm.server.status_text import FleetStatus, Share
 
 BEAT = 0.5  # seconds between two heartbeats
 OLD = 3.0  # seconds after which a look says nothing more
@@ -41,7 +40,7 @@ class Sharing:
     followers: int = 100
 
 
-class Keeper(Protocol):
+class FleetKeeper(Protocol):
     """What is needed of the server."""
     loop: Loop
     events: Events
@@ -58,14 +57,14 @@ class Keeper(Protocol):
     def session_for(self, network: Opened) -> Session:
         """The session of a network, which is made if nobody came to it before."""
 
-    def follow(self, session: Session, network: Opened, file: bytes, rows: Rows) -> bool:
+    def follow(self, session: Session, network: Opened, file: bytes, rows: RowPieces) -> bool:
         """Begins a program that follows a network's journal; gives whether it did."""
 
 
 class Fleet:
     """What this server has, and what it knows of the others."""
 
-    def __init__(self, keeper: Keeper, store: Store, named: Named, sharing: Sharing) -> None:
+    def __init__(self, keeper: FleetKeeper, store: Store, named: Named, sharing: Sharing) -> None:
         self.keeper, self.store, self.named, self.sharing = keeper, store, named, sharing
         members = store.members(named)
         try:
@@ -89,7 +88,7 @@ class Fleet:
         self.worker = Worker(keeper.loop, members)
         keeper.loop.soon.append(lambda: self.looked(self.known, self.seen, None))
 
-    def is_durable(self, seen: Seen) -> bool:
+    def is_durable(self, seen: SeenServers) -> bool:
         """Whether the database acknowledges nothing that one disk alone has, or may."""
         return not seen.weakness or self.sharing.is_alone
 
@@ -167,7 +166,7 @@ class Fleet:
         self.worker.ask(lambda members: members.beat(is_leaving),
                         lambda seen, why: self.looked(known, seen, why, waiting))
 
-    def looked(self, known: dict[int, int], seen: Seen | None, fault: Exception | None,
+    def looked(self, known: dict[int, int], seen: SeenServers | None, fault: Exception | None,
                waiting: Sequence[Callable[[], None]] = ()) -> None:
         """Does what follows from what was seen. `known` is what was answered before it was looked, and those that wait
         have waited for this look."""
@@ -189,7 +188,7 @@ class Fleet:
         if self.waiting:
             self.beat()
 
-    def see(self, known: dict[int, int], seen: Seen) -> None:
+    def see(self, known: dict[int, int], seen: SeenServers) -> None:
         """Takes, follows, loses."""
         self.seen, self.seen_at = seen, self.asked_at
         self.heads = {it.name: it for it in seen.heads}

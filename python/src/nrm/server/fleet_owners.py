@@ -9,7 +9,7 @@ import hashlib
 from dataclasses import dataclass
 from typing import Sequence
 
-from nrm.journal.stores import Head, Member, Seen
+from nrm.journal.stores import Head, Member, SeenServers
 
 MOVES = 8  # networks that a server moves to itself at a time
 
@@ -34,7 +34,7 @@ def preferred(head: Head, members: Sequence[Member], but: int | None = None) -> 
 
 
 @dataclass(frozen=True)
-class Wanted:
+class WantedNetworks:
     """What a server is to do, as far as it sees: the networks that it takes, since nobody has them; those that it moves
     to itself from a server that is alive; and those that it follows, since it would have them next."""
     takes: tuple[Head, ...]
@@ -42,7 +42,7 @@ class Wanted:
     follows: tuple[Head, ...]
 
 
-def wanted_of(seen: Seen, owned: dict[int, int]) -> Wanted:
+def wanted_of(seen: SeenServers, owned: dict[int, int]) -> WantedNetworks:
     """What a server is to do that has some networks, each by an epoch."""
     alive = {it.server for it in seen.members}
     takes, moves, follows = [], [], []
@@ -59,4 +59,4 @@ def wanted_of(seen: Seen, owned: dict[int, int]) -> Wanted:
         moves += [head] if is_mine and head.server in alive else []
         heir = preferred(head, seen.members, head.server)
         follows += [head] if heir and heir.server == seen.server and not head.is_ended else []
-    return Wanted(tuple(takes), tuple(moves), tuple(follows))
+    return WantedNetworks(tuple(takes), tuple(moves), tuple(follows))

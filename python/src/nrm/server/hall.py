@@ -13,21 +13,21 @@ from typing import Iterator, Sequence
 from nrm import Stop
 from nrm.journal.commits import Commits, Written, tried
 from nrm.journal.networks import file_of, head_of, network_in
-from nrm.journal.stores import Fenced, Given, Gone, Named, Opened, Store, Tables, Unknown
+from nrm.journal.stores import Fenced, Given, Gone, Named, Opened, Store, Tables, UnknownOutcome
 from nrm.program import Program
 from nrm.server.access import Access
-from nrm.server.clients import Client, Limits
+from nrm.server.clients import Client, ClientLimits
 from nrm.server.clock import Clock
 from nrm.server.clock_jumps import Jumps
 from nrm.server.counters import Counters
-from nrm.server.event_log import Events, Log
+from nrm.server.event_log import Events, LogForm
 from nrm.server.fleet import Fleet, Sharing
 from nrm.server.journal_asking import Asker, AtOnce, ByThread
 from nrm.server.loop import READ, Loop
 from nrm.server.passing_on import Passed
 from nrm.server.sessions import ANSWERS, BEGINS, FOLLOWS, RESTS, WAITS, Session
 from nrm.server.sole_owner import Owning, Sole
-from nrm.server.status_now import Now, Teller
+from nrm.server.status_now import Now, StatusWriter
 from nrm.server.tokens import Tokens
 
 JOURNAL_FAULT = 74
@@ -56,8 +56,8 @@ class Answering:
 class Hall:
     """Takes clients to their networks, and has rows written."""
 
-    def __init__(self, store: Store, answering: Answering, limits: Limits, every: int = 0, log: Log = Log(),
-                 sharing: Sharing = Sharing()) -> None:
+    def __init__(self, store: Store, answering: Answering, limits: ClientLimits, every: int = 0,
+                 log: LogForm = LogForm(), sharing: Sharing = Sharing()) -> None:
         self.store, self.answering, self.limits, self.loop = store, answering, limits, Loop()
         self.sharing = sharing
         self.events, self.counters = Events(self.loop, log), Counters()
@@ -81,8 +81,8 @@ class Hall:
         self.tokens = Tokens(self.events.tell)
         self.loop.looks.append(self.tokens.tell_of_refused)
         self.passed: set[Passed] = set()  # clients that are passed on to other servers
-        self.teller = Teller(self.owning, answering.checksum, self.writer.epoch, limits.clients, self.counters,
-                             self.sessions, lambda: self.loop.now, self.fits)
+        self.teller = StatusWriter(self.owning, answering.checksum, self.writer.epoch, limits.clients, self.counters,
+                                   self.sessions, lambda: self.loop.now, self.fits)
         self.to_begin: list[Session] = []
         self.reading: list[Session] = []  # whose network files are being read
         self.halting: set[int] = set()  # networks that are halted, which isn't written yet
@@ -359,7 +359,7 @@ class Hall:
         """A commit is done: the programs are told that their rows are kept, and the next is made."""
         written, self.in_writing = self.in_writing, []
         self.count(done)
-        if isinstance(done.fault, Unknown):
+        if isinstance(done.fault, UnknownOutcome):
             for session, given in written:
                 if session.run == given.run and not session.lost:
                     self.owning.unknown(session, done.fault)

@@ -75,7 +75,7 @@ class Asker(Protocol):
         """Has the tables asked something that does no harm twice, and tells what they gave."""
 
     def rows(self, network: int, lines: int | None, wake: Callable[[], None], history: str | None,
-             spoilt: Callable[[], None]) -> Rows:
+             spoilt: Callable[[], None]) -> RowPieces:
         """The rows of a network, in pieces that a frame takes: so many lines, or for now all that are there. If they
         are of another past than they must be, `spoilt` is called."""
 
@@ -83,7 +83,7 @@ class Asker(Protocol):
         """Asks no more."""
 
 
-class Rows(Protocol):
+class RowPieces(Protocol):
     """Rows in pieces. An empty piece is none yet: then it is told when there is one."""
 
     def __iter__(self) -> Iterator[bytes]:
@@ -104,7 +104,7 @@ class AtOnce:
         then(work(self.tables))
 
     def rows(self, network: int, lines: int | None, wake: Callable[[], None], history: str | None,
-             spoilt: Callable[[], None]) -> Rows:
+             spoilt: Callable[[], None]) -> RowPieces:
         """The rows of a network."""
         return rows_of(self.tables, network)
 

@@ -6,14 +6,14 @@ from __future__ import annotations
 from typing import Callable
 
 from nrm.server.access import Right
-from nrm.server.clients import Client, Hall
+from nrm.server.clients import Client, ClientHall
 
 
 class Own(Client):
     """A client with a right of its own and no token, that has sent all its lines and no more. At its end something is
     called, with why it was closed before all was answered, if it was."""
 
-    def __init__(self, hall: Hall, right: Right, at_end: Callable[[Own, str | None], None]) -> None:
+    def __init__(self, hall: ClientHall, right: Right, at_end: Callable[[Own, str | None], None]) -> None:
         self.hall, self.right, self.at_end = hall, right, at_end
         self.session, self.network, self.place, self.first, self.out = None, None, -1, b"", bytearray()
         self.unused, self.tail, self.least = 0, 0, 1

@@ -13,7 +13,7 @@ PASSES = ("memory", "denied")  # what may be answered otherwise later
 
 
 @dataclass(frozen=True)
-class Outcome:
+class PlanOutcome:
     """A plan that was made, in how many seconds, with its value, and the legs whose bid prices it changed as far as
     that is known; or why none was made, and whether the same would come of it again."""
     seconds: float = 0
@@ -23,7 +23,7 @@ class Outcome:
     fails_again: bool = False
 
 
-def outcome_of(told: Sequence[tuple[float, bytes]], why: str | None) -> Outcome:
+def outcome_of(told: Sequence[tuple[float, bytes]], why: str | None) -> PlanOutcome:
     """What the replies to a greeting, a look, a line and a look tell, of which there may be fewer if the client was
     closed: what became of that line the journal tells."""
     text = b"".join(data for _, data in told)
@@ -32,13 +32,13 @@ def outcome_of(told: Sequence[tuple[float, bytes]], why: str | None) -> Outcome:
     reply, is_whole, rest = rest.partition(b"\n")
     after, has_looked, _ = rest.partition(b"\n\n")
     if not is_whole:
-        return Outcome(fault=f"closed-{why.replace(' ', '-')}" if why else "strange")
+        return PlanOutcome(fault=f"closed-{why.replace(' ', '-')}" if why else "strange")
     word, _, value = reply.decode("ascii", "backslashreplace").partition(" ")
     if word != "optimised":
-        return Outcome(fault=word, fails_again=word not in PASSES)
+        return PlanOutcome(fault=word, fails_again=word not in PASSES)
     end = len(greeting) + len(before) + 3
     seconds = heard_at(told, end + len(reply) + 1) - heard_at(told, end)
-    return Outcome(seconds, value, changed_by(before, after) if has_looked else None)
+    return PlanOutcome(seconds, value, changed_by(before, after) if has_looked else None)
 
 
 def heard_at(told: Sequence[tuple[float, bytes]], size: int) -> float:

@@ -12,8 +12,8 @@ from typing import Sequence
 from nrm import Stop
 from nrm.journal.stores import Opened, Store
 from nrm.server.access import Access
-from nrm.server.clients import Client, Limits
-from nrm.server.event_log import Log
+from nrm.server.clients import Client, ClientLimits
+from nrm.server.event_log import LogForm
 from nrm.server.fleet import Sharing
 from nrm.server.hall import Answering, Hall
 from nrm.server.loop import READ
@@ -38,10 +38,10 @@ class Server:
     store: Store
     answering: Answering
     places: Places
-    limits: Limits = field(default_factory=Limits)
+    limits: ClientLimits = field(default_factory=ClientLimits)
     guard: Guard = field(default_factory=Guard)
     every: int = 0
-    log: Log = field(default_factory=Log)
+    log: LogForm = field(default_factory=LogForm)
     sharing: Sharing = field(default_factory=Sharing)
 
     def run(self) -> int:
@@ -87,7 +87,7 @@ class Server:
         manager = Manager()
         wake_by_signals(hall, manager)
         most = self.limits.clients_of_ports() if path else self.limits.clients
-        doors = [Door(hall, it, context, most) for it in listeners]
+        doors = [Listener(hall, it, context, most) for it in listeners]
         hall.loop.looks += [*(it.open for it in doors), lambda: manager.works(status_of(hall))]
         manager.ready(status_of(hall))
         try:
@@ -163,7 +163,7 @@ def wake_by_signals(hall: Hall, manager: Manager) -> None:
     hall.loop.want(told, READ, stop)
 
 
-class Door:
+class Listener:
     """A socket that listens. It takes a few clients at a time, so that a crowd of them doesn't keep others waiting."""
 
     def __init__(self, hall: Hall, listener: socket.socket, context: Watched[ssl.SSLContext] | None,

@@ -26,7 +26,7 @@ RESTS, WAITS, BEGINS, ANSWERS, ENDS, FOLLOWS = range(6)
 MEMORY = b"memory"  # the reply to a line for which there wasn't enough
 
 
-class Keeper(Protocol):
+class SessionKeeper(Protocol):
     """What a session needs of its server."""
     loop: Loop
     events: Events
@@ -52,7 +52,7 @@ class Keeper(Protocol):
 class Session:
     """A network, and the run of its program if it has one."""
 
-    def __init__(self, keeper: Keeper, network: Opened) -> None:
+    def __init__(self, keeper: SessionKeeper, network: Opened) -> None:
         self.keeper, self.network, self.state = keeper, network, RESTS
         self.places: dict[int, Client] = {}
         self.free: list[int] = []

@@ -6,7 +6,7 @@ from typing import Callable, Protocol, Sequence
 from nrm.journal.networks import network_in, networks_in
 from nrm.journal.stores import Fenced, Opened, Store, Tables, Writer
 from nrm.server.sessions import Session
-from nrm.server.status_text import Fleet, Share
+from nrm.server.status_text import FleetStatus, Share
 
 LOST = "another server has the journal now, and this one answers nothing more"
 
@@ -32,7 +32,7 @@ class Owning(Protocol):
     def when_looked(self, then: Callable[[], None]) -> bool:
         """Has something done once the networks were looked at anew; gives whether they are."""
 
-    def fleet(self) -> tuple[Fleet | None, tuple[Share, ...]]:
+    def fleet(self) -> tuple[FleetStatus | None, tuple[Share, ...]]:
         """What is told of the servers that share the journal, and whose each network is; nothing of one that has it
         alone."""
 
@@ -73,7 +73,7 @@ class Owning(Protocol):
         """Ends what stands between this server and others."""
 
 
-class Keeper(Protocol):
+class SoleKeeper(Protocol):
     """What is needed of the server."""
 
     def fail(self, fault: Exception) -> None:
@@ -83,7 +83,7 @@ class Keeper(Protocol):
 class Sole:
     """It has all networks, by the epoch of its start."""
 
-    def __init__(self, keeper: Keeper, store: Store, tables: Tables, writer: Writer) -> None:
+    def __init__(self, keeper: SoleKeeper, store: Store, tables: Tables, writer: Writer) -> None:
         self.keeper, self.store, self.tables, self.writer = keeper, store, tables, writer
 
     def networks(self) -> Sequence[Opened]:
@@ -110,7 +110,7 @@ class Sole:
         """The journal is looked at each time."""
         return False
 
-    def fleet(self) -> tuple[Fleet | None, tuple[Share, ...]]:
+    def fleet(self) -> tuple[FleetStatus | None, tuple[Share, ...]]:
         """There is no other server."""
         return None, ()
 

@@ -11,7 +11,8 @@ from nrm.server.counters import Counters
 from nrm.server.event_log import time_text
 from nrm.server.sessions import RESTS, Session
 from nrm.server.sole_owner import Owning
-from nrm.server.status_text import STATES, UNFIT, Clients, Commits, Network, Programs, Server, Status
+from nrm.server.status_text import (STATES, UNFIT, ClientStatus, CommitStatus, NetworkStatus, ProgramStatus,
+                                    ServerStatus, Status)
 
 SECOND = 1.0
 NOBODY = "none"  # the owner of a network that no server has
@@ -26,7 +27,7 @@ class Now:
     is_stopping: bool
 
 
-class Teller:
+class StatusWriter:
     """Makes the answers. The journal is asked for its networks, and for its size, at most once a second."""
 
     def __init__(self, owning: Owning, program: str, epoch: int, most: int, counters: Counters,
@@ -46,13 +47,13 @@ class Teller:
         fleet, shares = self.owning.fleet()
         owned = {it.network for it in shares if it.owner != NOBODY}
         return Status(
-            Server(__version__.lstrip("v"), self.program, self.started, self.epoch, self.size, counted.jumps,
-                   now.is_stopping),
-            Clients(now.clients, self.most, counted.came, counted.turned_away, counted.unread, counted.bytes_in,
-                    counted.bytes_out),
+            ServerStatus(__version__.lstrip("v"), self.program, self.started, self.epoch, self.size, counted.jumps,
+                         now.is_stopping),
+            ClientStatus(now.clients, self.most, counted.came, counted.turned_away, counted.unread, counted.bytes_in,
+                         counted.bytes_out),
             {why.replace(" ", "-"): count for why, count in counted.closed.items()},
-            Commits(counted.commits, counted.seconds, counted.longest, counted.rows, now.waiting, counted.failed),
-            counted.within(), Programs(now.programs, counted.begun, counted.ended),
+            CommitStatus(counted.commits, counted.seconds, counted.longest, counted.rows, now.waiting, counted.failed),
+            counted.within(), ProgramStatus(now.programs, counted.begun, counted.ended),
             tuple(status_of(it, self.sessions.get(it.name), self.fits(it) or it.name in owned)
                   for it in self.networks), fleet, shares)
 
@@ -63,13 +64,13 @@ class Teller:
             self.size = self.owning.size()
 
 
-def status_of(network: Opened, session: Session | None, fits: bool = True) -> Network:
+def status_of(network: Opened, session: Session | None, fits: bool = True) -> NetworkStatus:
     """What is told of a network, which a server may answer for or not, and of its session if somebody came to it."""
     rests = STATES[RESTS] if fits or network.is_ended else UNFIT
     if not session:
-        return Network(network.name, network.mode, rests, 0, network.lines, network.halted is not None, 0)
+        return NetworkStatus(network.name, network.mode, rests, 0, network.lines, network.halted is not None, 0)
     lines = session.lines if session.process else network.lines
     is_halted = (session.network.halted or network.halted) is not None
     state = rests if session.state == RESTS else STATES[session.state]
-    return Network(network.name, network.mode, state, len(session.places) + len(session.coming), lines,
-                   is_halted, session.memory)
+    return NetworkStatus(network.name, network.mode, state, len(session.places) + len(session.coming),
+                         lines, is_halted, session.memory)

@@ -35,7 +35,7 @@ class StrangeStatus(NoStatus):
 
 
 @dataclass(frozen=True)
-class Server:
+class ServerStatus:
     """The server: its version, the SHA-256 of its program, when it began, its epoch, the bytes of its journal, how often
     the machine's clock jumped since it began, and whether it is about to end."""
     version: str
@@ -48,7 +48,7 @@ class Server:
 
 
 @dataclass(frozen=True)
-class Clients:
+class ClientStatus:
     """The clients: those that are there, how many may be, and, since the server began, how many came, were turned away,
     were dropped since they didn't take their replies, and the bytes from and to them."""
     now: int
@@ -61,7 +61,7 @@ class Clients:
 
 
 @dataclass(frozen=True)
-class Commits:
+class CommitStatus:
     """The commits: how many, the seconds of all and of the longest, the rows that they wrote, those that wait to be
     written now, and the commits that didn't write all that they were to."""
     count: int
@@ -73,7 +73,7 @@ class Commits:
 
 
 @dataclass(frozen=True)
-class Programs:
+class ProgramStatus:
     """The programs: those that run, and how many have begun and ended."""
     now: int
     begun: int
@@ -81,7 +81,7 @@ class Programs:
 
 
 @dataclass(frozen=True)
-class Network:
+class NetworkStatus:
     """A network of the journal: its name, its mode, what its program does, or `version` if it hasn't ended and began
     with another program than the server has, the clients there, its lines, whether it is halted, and how often the
     reply was `memory`."""
@@ -95,7 +95,7 @@ class Network:
 
 
 @dataclass(frozen=True)
-class Fleet:
+class FleetStatus:
     """A server among several that share a journal: its name, where others reach it, how many servers it sees, the
     networks that it has now and follows now, and since it began, how many it has taken and lost, and how many clients
     it passed on."""
@@ -124,14 +124,14 @@ class Status:
     """All that a server tells of itself; of others, and whose each network is, only where several share a journal.
     `closed` has why clients were closed, and how many for that; `commit_times`
     seconds, and how many commits took at most so long, as a histogram of Prometheus has them."""
-    server: Server
-    clients: Clients
+    server: ServerStatus
+    clients: ClientStatus
     closed: Mapping[str, int]
-    commits: Commits
+    commits: CommitStatus
     commit_times: Tuple[Tuple[float, int], ...]
-    programs: Programs
-    networks: Tuple[Network, ...]
-    fleet: Optional[Fleet] = None
+    programs: ProgramStatus
+    networks: Tuple[NetworkStatus, ...]
+    fleet: Optional[FleetStatus] = None
     shares: Tuple[Share, ...] = ()
 
     def unfit(self) -> list[str]:
@@ -172,10 +172,10 @@ def status_of(text: str) -> Status:
     *lines, last, rest = text.split("\n") if text.endswith("\n\n") else ["", "no end", ""]
     if last or rest:
         raise StrangeStatus(f"it has no empty line at its end: {text[-MOST_SHOWN:]!r}")
-    return Lines(lines).status()
+    return StatusLines(lines).status()
 
 
-class Lines:
+class StatusLines:
     """The lines of an answer, by their kinds."""
 
     def __init__(self, lines: Sequence[str]) -> None:
@@ -189,13 +189,13 @@ class Lines:
     def status(self) -> Status:
         """The status that they tell."""
         closed = [pairs_of(words[1:]) for words in self.of_kind["closed"]]
-        return Status(part_of(Server, self.one("server")), part_of(Clients, self.one("clients")),
+        return Status(part_of(ServerStatus, self.one("server")), part_of(ClientStatus, self.one("clients")),
                       {why: whole(count) for pairs in closed for why, count in pairs},
-                      part_of(Commits, self.one("commits")),
+                      part_of(CommitStatus, self.one("commits")),
                       tuple((duration(bound), whole(count)) for bound, count in pairs_of(self.one("commit-times"))),
-                      part_of(Programs, self.one("programs")),
-                      tuple(part_of(Network, words) for words in self.of_kind["network"]),
-                      part_of(Fleet, self.one("fleet")) if self.of_kind["fleet"] else None,
+                      part_of(ProgramStatus, self.one("programs")),
+                      tuple(part_of(NetworkStatus, words) for words in self.of_kind["network"]),
+                      part_of(FleetStatus, self.one("fleet")) if self.of_kind["fleet"] else None,
                       tuple(part_of(Share, words[1:]) for words in self.of_kind["share"]))
 
     def one(self, kind: str) -> list[str]:

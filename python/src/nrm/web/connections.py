@@ -15,7 +15,7 @@ from dataclasses import dataclass, field
 from typing import Iterator, NamedTuple
 
 from nrm.desk import Desk, DeskError, Ended, Strange
-from nrm.web.messages import PASSES, Refusal
+from nrm.web.messages import PASSES, HttpRefusal
 
 MOST, IDLE, SECONDS = 500, 60.0, 10.0
 LETTERS = "0123456789ABCDEFGHIJKLMNOPQRSTUVWXYZ"
@@ -58,15 +58,15 @@ def desk_of_token(place: str, token: str, seconds: float) -> str:
                     break
                 told += piece
     except OSError as fault:
-        raise Refusal(503, "connection", f"the server can't be asked: {fault.strerror or fault}", PASSES)
+        raise HttpRefusal(503, "connection", f"the server can't be asked: {fault.strerror or fault}", PASSES)
     kind, _, name = told.decode("latin-1").strip().partition(" ")
     if kind != "token":
-        raise Refusal(401, "token", "the server doesn't know the token of this process")
+        raise HttpRefusal(401, "token", "the server doesn't know the token of this process")
     return name
 
 
 @dataclass
-class Entry:
+class DeskConnection:
     """A desk with its connection, when it was used, and by how many just now."""
     lock: threading.Lock = field(default_factory=threading.Lock)
     desk: Desk | None = None
@@ -74,16 +74,16 @@ class Entry:
     users: int = 0
 
 
-class Kept:
+class Connections:
     """The desks in whose names somebody asks."""
 
     def __init__(self, place: str, seconds: float = SECONDS, most: int = MOST, idle: float = IDLE) -> None:
         self.place, self.seconds, self.most, self.idle = place, seconds, most, idle
         self.lock = threading.Lock()
-        self.entries: dict[Who, Entry] = {}
+        self.entries: dict[Who, DeskConnection] = {}
 
     def reply(self, who: Who, line: str, sequence: int | None = None) -> bytes:
-        """The reply to a line of a desk; a Refusal where there is none."""
+        """The reply to a line of a desk; an HttpRefusal where there is none."""
         with self.entry(who) as entry:
             if not entry.lock.acquire(timeout=self.seconds):
                 raise late("other lines of this desk are before it")
@@ -97,7 +97,7 @@ class Kept:
             finally:
                 entry.lock.release()
 
-    def asked(self, entry: Entry, who: Who, line: str, sequence: int | None) -> bytes:
+    def asked(self, entry: DeskConnection, who: Who, line: str, sequence: int | None) -> bytes:
         """The reply to a line, on the connection that is there if the line is the next one of it."""
         if entry.desk is None:
             desk = Desk(self.place, who.desk, who.network, sequence, self.seconds, who.token)
@@ -106,7 +106,7 @@ class Kept:
                 entry.desk = desk if is_room else None
             if not is_room:
                 desk.close()
-                raise Refusal(503, "desks", f"{self.most} desks are asked for already", PASSES)
+                raise HttpRefusal(503, "desks", f"{self.most} desks are asked for already", PASSES)
             return desk.reply(line)
         if sequence is not None and entry.desk.sequence != sequence:
             entry.desk.close()
@@ -114,10 +114,10 @@ class Kept:
         return entry.desk.reply(line)
 
     @contextlib.contextmanager
-    def entry(self, who: Who) -> Iterator[Entry]:
+    def entry(self, who: Who) -> Iterator[DeskConnection]:
         """The place of a desk, which stays as long as it is used, and behind that as long as it has a connection."""
         with self.lock:
-            entry = self.entries.pop(who, None) or Entry()
+            entry = self.entries.pop(who, None) or DeskConnection()
             self.entries[who] = entry  # the last one now
             entry.users += 1
         try:
@@ -159,21 +159,21 @@ class Kept:
         self.sweep()
 
 
-def refusal_of(fault: DeskError) -> Refusal:
+def refusal_of(fault: DeskError) -> HttpRefusal:
     """What a desk's error is in HTTP."""
     if isinstance(fault, Ended):
         word = str(fault)
         status, why = FOR_GOOD.get(word, (503, "the server has closed the desk's connection with this word"))
-        return Refusal(status, word, why, (("WWW-Authenticate", "Bearer"),) if status == 401 else ())
+        return HttpRefusal(status, word, why, (("WWW-Authenticate", "Bearer"),) if status == 401 else ())
     if isinstance(fault, Strange):
-        return Refusal(502, "strange", "what listens on the socket doesn't answer as `nrm-tools serve` does")
+        return HttpRefusal(502, "strange", "what listens on the socket doesn't answer as `nrm-tools serve` does")
     why = str(fault.__cause__ or fault)
     if why == "timed out":
         return late("no answer came in time")
     word = why[len("closed "):].partition(" ")[0] if why.startswith("closed ") else "connection"
-    return Refusal(503, word, f"the server can't answer now: {why}; the same request may be sent again", PASSES)
+    return HttpRefusal(503, word, f"the server can't answer now: {why}; the same request may be sent again", PASSES)
 
 
-def late(why: str) -> Refusal:
-    """A Refusal for what took too long."""
-    return Refusal(504, "late", f"{why}; the same request may be sent again", PASSES)
+def late(why: str) -> HttpRefusal:
+    """An HttpRefusal for what took too long."""
+    return HttpRefusal(504, "late", f"{why}; the same request may be sent again", PASSES)

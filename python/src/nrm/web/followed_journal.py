@@ -14,7 +14,7 @@ from nrm.journal.choosing_store import using
 from nrm.journal.networks import file_of, network_in, networks_in
 from nrm.journal.stores import Opened, Tables
 from nrm.network import Network, rows_of
-from nrm.web.network_counts import Booking, Counts, Row, Seen, StrangeRow
+from nrm.web.network_counts import CountedBooking, CountedNetwork, Counts, JournalRow, StrangeRow
 
 LOOKS_EVERY = 0.1  # seconds: whether anybody has written
 READS_EVERY = 1.0
@@ -33,7 +33,7 @@ class Followed:
     halted: str | None
     lines: int
     fault: str | None = None  # why no further rows are read
-    seen: Seen = field(default_factory=Seen)
+    seen: CountedNetwork = field(default_factory=CountedNetwork)
     is_frozen: bool = False
 
     @property
@@ -107,7 +107,7 @@ class Following:
         """A network with its next rows."""
         self.turns += 1
         made = Followed(opened.number, opened.name, opened.mode, opened.is_ended, opened.halted, opened.lines,
-                        old.fault if old else None, old.seen if old else Seen(), opened.is_frozen)
+                        old.fault if old else None, old.seen if old else CountedNetwork(), opened.is_frozen)
         if made.fault:
             return made
         try:
@@ -164,7 +164,7 @@ class Following:
         found = self.networks.get(name)
         return found is not None and (found.fault is not None or found.seen.lines >= lines)
 
-    def booking(self, network: Followed, number: int) -> Booking | None:
+    def booking(self, network: Followed, number: int) -> CountedBooking | None:
         """A booking of a network, as far as the journal is read."""
         counts = self.counts.get(network.number)
         return counts.booking(number) if counts else None
@@ -183,7 +183,7 @@ def take_rows(connection: Tables, opened: Opened, counts: Counts) -> None:
         rows = connection.execute(f"SELECT {COLUMNS} FROM line WHERE network = ? AND number > ? ORDER BY number "
                                   "LIMIT ?", [opened.number, counts.lines, ROWS_AT_ONCE]).fetchall()
         for row in rows:
-            counts.take(Row(*row))
+            counts.take(JournalRow(*row))
         if counts.lines >= opened.lines:
             return
         if not rows:

@@ -10,7 +10,7 @@ from pathlib import Path
 from typing import Any
 
 from nrm import Stop
-from nrm.journal.answered_lines import Line, line_in
+from nrm.journal.answered_lines import AnsweredLine, line_in
 from nrm.journal.choosing_store import shown, using
 from nrm.journal.networks import known
 from nrm.journal.stores import now
@@ -18,12 +18,12 @@ from nrm.libraries import is_there, lacks
 from nrm.pages.page import templates
 from nrm.web.followed_journal import Followed, Following
 from nrm.web.line_accounts import Accounts
-from nrm.web.messages import HTML, Refusal, Request, Response, Stream
+from nrm.web.messages import HTML, HttpRefusal, HttpRequest, HttpResponse, HttpStream
 from nrm.web.network_views import NetworkRow, NetworkView, row_of, view_of
 from nrm.web.page_events import Streams
 from nrm.web.page_words import amount, why
-from nrm.web.priced_networks import Looks
-from nrm.web.recent_status import Asked
+from nrm.web.priced_networks import PricedNetworks
+from nrm.web.recent_status import RecentStatus
 
 STATIC = Path(__file__).with_name("static")
 CATCHES_UP = 3.0  # seconds for which what is in the journal already is waited for
@@ -34,7 +34,8 @@ PARTS = ("summary", "legs", "money", "products", "refusals")  # of the page of a
 class Pages:
     """The pages, and the streams that keep them up to date."""
 
-    def __init__(self, following: Following, looks: Looks, journal: str, accounts: Accounts, status: Asked) -> None:
+    def __init__(self, following: Following, looks: PricedNetworks, journal: str, accounts: Accounts,
+                 status: RecentStatus) -> None:
         self.following, self.looks, self.journal, self.accounts = following, looks, journal, accounts
         self.status = status
         self.streams = Streams(following)
@@ -47,68 +48,68 @@ class Pages:
         made.filters["amount"] = amount
         return made
 
-    def page(self, template: str, **values: object) -> Response:
+    def page(self, template: str, **values: object) -> HttpResponse:
         """A page of a template."""
         self.see_that_it_can_be_made()
         with self.lock:
-            return Response(self.templates.get_template(template).render(**values).encode(), HTML)
+            return HttpResponse(self.templates.get_template(template).render(**values).encode(), HTML)
 
     def see_that_it_can_be_made(self) -> None:
-        """A Refusal where jinja2 isn't there."""
+        """An HttpRefusal where jinja2 isn't there."""
         if not is_there("jinja2"):
-            raise Refusal(501, "library", f"there is no page, since {lacks(['jinja2'])}")
+            raise HttpRefusal(501, "library", f"there is no page, since {lacks(['jinja2'])}")
 
     # What is asked for
 
-    def networks(self, asked: Request) -> Response:
+    def networks(self, asked: HttpRequest) -> HttpResponse:
         """The page of all networks."""
         self.following.wait_for_news(0, CATCHES_UP)
         return self.page("networks.html", rows=self.rows(), fault=self.following.fault)
 
-    def network(self, asked: Request, name: str) -> Response:
+    def network(self, asked: HttpRequest, name: str) -> HttpResponse:
         """The page of a network."""
         self.see_that_it_can_be_made()
         view = self.view(self.followed(name))
         return self.page("network.html", name=name, mode=view.network.mode, parts=self.parts_of(view))
 
-    def line(self, asked: Request, name: str, number: str) -> Response:
+    def line(self, asked: HttpRequest, name: str, number: str) -> HttpResponse:
         """The page of a line."""
         line = self.line_of(name, number)
         command = f"nrm-tools why {shlex.quote(shown(self.journal))} {name} {line.number}"
         return self.page("line.html", name=name, line=line, why=why(line.line, line.reply), command=command,
                          has_accounts=self.accounts.is_on)
 
-    def account(self, asked: Request, name: str, number: str) -> Response:
+    def account(self, asked: HttpRequest, name: str, number: str) -> HttpResponse:
         """The page of a line's account, which is made now."""
         line = self.line_of(name, number)
         text = self.accounts.text(name, line.number)
         return self.page("why.html", name=name, line=line, first=text.partition("\n")[0], text=text)
 
-    def networks_as_they_change(self, asked: Request) -> Stream:
+    def networks_as_they_change(self, asked: HttpRequest) -> HttpStream:
         """The rows of the table of all networks, as they change."""
         return self.streams.begin(self.changed_rows({}))
 
-    def network_as_it_changes(self, asked: Request, name: str) -> Stream:
+    def network_as_it_changes(self, asked: HttpRequest, name: str) -> HttpStream:
         """The parts of a network's page, as they change."""
         self.see_that_it_can_be_made()
         self.followed(name)
         return self.streams.begin(self.changed_parts(name, {}))
 
-    def style(self, asked: Request) -> Response:
+    def style(self, asked: HttpRequest) -> HttpResponse:
         """How pages look."""
-        return Response((STATIC / "page.css").read_bytes(), "text/css; charset=utf-8")
+        return HttpResponse((STATIC / "page.css").read_bytes(), "text/css; charset=utf-8")
 
-    def script(self, asked: Request) -> Response:
+    def script(self, asked: HttpRequest) -> HttpResponse:
         """What keeps pages up to date, filters and sorts."""
-        return Response((STATIC / "page.js").read_bytes(), "text/javascript; charset=utf-8")
+        return HttpResponse((STATIC / "page.js").read_bytes(), "text/javascript; charset=utf-8")
 
     # Of what
 
     def followed(self, name: str) -> Followed:
-        """A network; a Refusal if there is none of this name."""
+        """A network; an HttpRefusal if there is none of this name."""
         found = self.following.networks.get(name) or self.following.caught_up(name, CATCHES_UP)
         if not found:
-            raise Refusal(404, "network", "the journal has no network of this name")
+            raise HttpRefusal(404, "network", "the journal has no network of this name")
         return found
 
     def answered(self, network: Followed) -> Followed:
@@ -121,17 +122,17 @@ class Pages:
         at = now()
         return [row_of(self.answered(it), at) for it in self.following.networks.values()]
 
-    def line_of(self, name: str, number: str) -> Line:
+    def line_of(self, name: str, number: str) -> AnsweredLine:
         """A line of a network, as the journal has it now."""
         self.see_that_it_can_be_made()
         self.followed(name)
         if not re.fullmatch("[1-9][0-9]{0,14}", number):
-            raise Refusal(404, "line", "the number of a line is a whole one from 1")
+            raise HttpRefusal(404, "line", "the number of a line is a whole one from 1")
         with using(self.journal) as connection:
             try:
                 return line_in(connection, known(connection, name), int(number))
             except Stop as stop:
-                raise Refusal(404, "line", str(stop))
+                raise HttpRefusal(404, "line", str(stop))
 
     def view(self, network: Followed) -> NetworkView:
         """What a network's page shows now."""

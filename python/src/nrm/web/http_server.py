@@ -21,7 +21,7 @@ from typing import Any, Callable, Sequence, cast
 from nrm import Stop
 from nrm.server.sockets import is_loopback, tcp_socket
 from nrm.server.tls_certificates import server_context
-from nrm.web.messages import PASSES, Answer, Head, Refusal, Request, Stream
+from nrm.web.messages import PASSES, Answer, HttpHead, HttpRefusal, HttpRequest, HttpStream
 
 MOST_CONNECTIONS = 200
 MOST_BODY = 4_096
@@ -33,7 +33,7 @@ POLICY = ("default-src 'none'; script-src 'self'; style-src 'self'; connect-src 
           "form-action 'none'; frame-ancestors 'none'")
 HEAD = (("Content-Security-Policy", POLICY), ("X-Content-Type-Options", "nosniff"), ("Referrer-Policy", "no-referrer"),
         ("Cache-Control", "no-store"))
-Answering = Callable[[Request], Answer]
+Answering = Callable[[HttpRequest], Answer]
 
 
 @dataclass(frozen=True)
@@ -79,7 +79,7 @@ class Timed(io.RawIOBase):
 
 class Bounded(io.BufferedReader):
     """The same by lines, which are those of a head."""
-    head = Head()
+    head = HttpHead()
 
     def readline(self, size: int | None = -1, /) -> bytes:
         return self.head.taken(super().readline(self.head.left + 1))
@@ -108,7 +108,7 @@ class Handler(BaseHTTPRequestHandler):
     def handle_one_request(self) -> None:
         """Takes a request and answers it; what comes too late or not at all ends the connection."""
         self.timed.begin()
-        self.bounded.head = Head()
+        self.bounded.head = HttpHead()
         self.requestline, self.request_version, self.command = "", self.protocol_version, ""
         try:
             self.raw_requestline = self.bounded.readline()
@@ -116,7 +116,7 @@ class Handler(BaseHTTPRequestHandler):
                 self.close_connection = True
             elif self.parse_request():
                 self.answer(self.answered())
-        except Refusal as refusal:  # of its head: where the next request begins isn't known
+        except HttpRefusal as refusal:  # of its head: where the next request begins isn't known
             self.close_connection, self.request_version = True, self.protocol_version
             self.answer(refusal.response(False))
         except OSError:  # too late, or gone
@@ -125,35 +125,36 @@ class Handler(BaseHTTPRequestHandler):
     def answered(self) -> Answer:
         """What the request is answered."""
         head = {name.lower(): value for name, value in self.headers.items()}
-        asked = Request(self.command, self.path.partition("?")[0], head)
+        asked = HttpRequest(self.command, self.path.partition("?")[0], head)
         try:
-            asked = Request(asked.method, asked.path, head, self.body(), self.client_address[0])
+            asked = HttpRequest(asked.method, asked.path, head, self.body(), self.client_address[0])
             self.site.see_that_it_is_own(asked, str(self.connection.getsockname()[0]))
             return self.site.answering(asked)
-        except Refusal as refusal:
+        except HttpRefusal as refusal:
             return refusal.response(asked.wants_json())
         except Stop as stop:
-            return Refusal(503, "journal", str(stop), PASSES).response(asked.wants_json())
+            return HttpRefusal(503, "journal", str(stop), PASSES).response(asked.wants_json())
         except OSError:
             raise
         except Exception as fault:
             self.site.tell(f"{asked.method} of a path failed with {type(fault).__name__}: {fault}")
-            return Refusal(500, "fault", "this server failed at it").response(asked.wants_json())
+            return HttpRefusal(500, "fault", "this server failed at it").response(asked.wants_json())
 
     def body(self) -> bytes:
-        """The body of the request; a Refusal ends the connection, since what is left of it would be a next request."""
+        """The body of the request; an HttpRefusal ends the connection, since what is left of it would be a next
+        request."""
         lengths = self.headers.get_all("Content-Length") or []
         if not lengths and "Transfer-Encoding" not in self.headers:
             return b""
         self.close_connection, was_to_close = True, self.close_connection
         if lengths and "Transfer-Encoding" in self.headers:
-            raise Refusal(400, "length", "a request has no `Content-Length` beside `Transfer-Encoding`")
+            raise HttpRefusal(400, "length", "a request has no `Content-Length` beside `Transfer-Encoding`")
         if "Transfer-Encoding" in self.headers:
-            raise Refusal(411, "length", "a body has its length in `Content-Length`, and comes in one piece")
+            raise HttpRefusal(411, "length", "a body has its length in `Content-Length`, and comes in one piece")
         if len(lengths) > 1 or not re.fullmatch("[0-9]{1,15}", lengths[0]):
-            raise Refusal(400, "length", "`Content-Length` is one whole number")
+            raise HttpRefusal(400, "length", "`Content-Length` is one whole number")
         if int(lengths[0]) > MOST_BODY:
-            raise Refusal(413, "length", f"a body has at most {MOST_BODY} bytes")
+            raise HttpRefusal(413, "length", f"a body has at most {MOST_BODY} bytes")
         body = self.bounded.read(int(lengths[0]))
         if len(body) < int(lengths[0]):
             raise ConnectionError("the body broke off")
@@ -162,7 +163,7 @@ class Handler(BaseHTTPRequestHandler):
 
     def answer(self, answer: Answer) -> None:
         """Sends an answer."""
-        if isinstance(answer, Stream):
+        if isinstance(answer, HttpStream):
             self.close_connection = True
             self.stream(answer)
             return
@@ -177,7 +178,7 @@ class Handler(BaseHTTPRequestHandler):
             self.send_header(name, value)
         self.end_headers()
 
-    def stream(self, answer: Stream) -> None:
+    def stream(self, answer: HttpStream) -> None:
         """Sends pieces until the one who asked is gone."""
         try:
             self.put_head(200, answer.kind, ())
@@ -189,7 +190,8 @@ class Handler(BaseHTTPRequestHandler):
     def send_error(self, code: int, message: str | None = None, explain: str | None = None) -> None:
         """Tells what `http.server` itself finds wrong."""
         self.close_connection, self.request_version = True, self.protocol_version
-        self.answer(Refusal(code, "request", message or self.responses.get(code, ("it is none",))[0]).response(False))
+        why = message or self.responses.get(code, ("it is none",))[0]
+        self.answer(HttpRefusal(code, "request", why).response(False))
 
     def finish(self) -> None:
         """Ends the connection."""
@@ -226,16 +228,16 @@ class Site(ThreadingHTTPServer):
         shown = f"[{host!s}]" if ":" in str(host) else str(host)
         return f"http{'s' if self.context else ''}://{shown}:{port}"
 
-    def see_that_it_is_own(self, asked: Request, address: str) -> None:
-        """A Refusal for what the page of another site asks by a browser, at an address of this machine. That is seen by
-        the name of the host too, since a name of a stranger may stand for that address: then the two sites are one to
-        the browser, and the page may read what is answered."""
+    def see_that_it_is_own(self, asked: HttpRequest, address: str) -> None:
+        """An HttpRefusal for what the page of another site asks by a browser, at an address of this machine. That is
+        seen by the name of the host too, since a name of a stranger may stand for that address: then the two sites are
+        one to the browser, and the page may read what is answered."""
         host = asked.head.get("host", "")
         if not is_own_name(host, (*self.listening.hosts, address)):
-            raise Refusal(421, "host", "nothing is here by the name of this `Host`: `--host` gives a name")
+            raise HttpRefusal(421, "host", "nothing is here by the name of this `Host`: `--host` gives a name")
         origin = asked.head.get("origin")
         if origin is not None and origin.partition("://")[2].lower() != host.lower():
-            raise Refusal(403, "origin", "the page of another site asked for this")
+            raise HttpRefusal(403, "origin", "the page of another site asked for this")
 
     def process_request(self, request: Any, client_address: Any) -> None:
         """Begins a thread for a connection, or turns it away."""

@@ -9,7 +9,7 @@ import threading
 from pathlib import Path
 
 from nrm.journal.choosing_store import word_of
-from nrm.web.messages import PASSES, Refusal
+from nrm.web.messages import PASSES, HttpRefusal
 
 SECONDS = 30.0  # that the command may take
 SOURCES = Path(__file__).resolve().parents[2]
@@ -24,12 +24,12 @@ class Accounts:
         self.lock = threading.Lock()
 
     def text(self, network: str, number: int) -> str:
-        """What is printed of a line; a Refusal where that is nothing, another line is being explained, or it takes too
-        long."""
+        """What is printed of a line; an HttpRefusal where that is nothing, another line is being explained, or it takes
+        too long."""
         if not self.is_on:
-            raise Refusal(404, "off", "accounts aren't on: `--why` has them on")
+            raise HttpRefusal(404, "off", "accounts aren't on: `--why` has them on")
         if not self.lock.acquire(blocking=False):
-            raise Refusal(503, "busy", "another line is being explained", PASSES)
+            raise HttpRefusal(503, "busy", "another line is being explained", PASSES)
         try:
             return self.printed(network, number)
         finally:
@@ -46,7 +46,7 @@ class Accounts:
         except subprocess.TimeoutExpired:
             os.killpg(process.pid, signal.SIGKILL)
             process.communicate()
-            raise Refusal(504, "late", f"the line isn't explained within {self.seconds:g} seconds")
+            raise HttpRefusal(504, "late", f"the line isn't explained within {self.seconds:g} seconds")
         if not told:
-            raise Refusal(501, "why", wrong.strip()[-1000:].replace(FIRST, "", 1) or "the command printed nothing")
+            raise HttpRefusal(501, "why", wrong.strip()[-1000:].replace(FIRST, "", 1) or "the command printed nothing")
         return told

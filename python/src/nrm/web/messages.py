@@ -25,7 +25,7 @@ END = b"\r\n"
 
 
 @dataclass(frozen=True)
-class Request:
+class HttpRequest:
     """What was asked: the path without its query, the fields of the head with names in small letters, the body, and the
     address of who asks."""
     method: str
@@ -39,20 +39,20 @@ class Request:
         return any(it.split(";")[0].strip() == JSON for it in self.head.get("accept", "").lower().split(","))
 
     def token(self) -> str | None:
-        """The token of who asks; a Refusal for another kind of it."""
+        """The token of who asks; an HttpRefusal for another kind of it."""
         given = self.head.get("authorization")
         if given is None:
             return None
         kind, _, token = given.partition(" ")
         token = token.strip()
         if kind.lower() != "bearer" or not TOKEN.fullmatch(token):
-            raise Refusal(401, "token", "what stands behind `Authorization` is not `Bearer` and a token",
-                          (("WWW-Authenticate", "Bearer"),))
+            raise HttpRefusal(401, "token", "what stands behind `Authorization` is not `Bearer` and a token",
+                              (("WWW-Authenticate", "Bearer"),))
         return token
 
 
 @dataclass(frozen=True)
-class Response:
+class HttpResponse:
     """What is answered, as a whole."""
     body: bytes
     kind: str = TEXT
@@ -61,42 +61,42 @@ class Response:
 
 
 @dataclass(frozen=True)
-class Stream:
+class HttpStream:
     """What is answered bit by bit, until the one who asked is gone; then it is closed."""
     pieces: Iterator[bytes]
     kind: str
     close: Callable[[], None]
 
 
-Answer = Union[Response, Stream]
+Answer = Union[HttpResponse, HttpStream]
 
 
-class Refusal(Exception):
+class HttpRefusal(Exception):
     """Why nothing else is answered: the status, a word for programs, and a sentence for people."""
 
     def __init__(self, status: int, word: str, why: str, head: Pairs = ()) -> None:
         super().__init__(f"{word}: {why}")
         self.status, self.word, self.why, self.head = status, word, why, head
 
-    def response(self, is_json: bool) -> Response:
+    def response(self, is_json: bool) -> HttpResponse:
         """The answer that tells it."""
         if is_json:
             return json_of({"error": self.word, "why": self.why}, self.status, self.head)
-        return Response(f"{self.word}: {self.why}\n".encode(), TEXT, self.status, self.head)
+        return HttpResponse(f"{self.word}: {self.why}\n".encode(), TEXT, self.status, self.head)
 
 
-class Head:
+class HttpHead:
     """A head that comes line by line, and what has come of it."""
 
     def __init__(self) -> None:
         self.left, self.lines, self.hosts = MOST_HEAD, 0, 0
 
     def taken(self, line: bytes) -> bytes:
-        """A next line, at most a byte longer than what is left; a Refusal if it mustn't come. No bytes are the end of
-        a connection, which may come before a head alone."""
+        """A next line, at most a byte longer than what is left; an HttpRefusal if it mustn't come. No bytes are the end
+        of a connection, which may come before a head alone."""
         self.left -= len(line)
         if self.left < 0:
-            raise Refusal(431, "head", f"the head of a request has at most {MOST_HEAD} bytes")
+            raise HttpRefusal(431, "head", f"the head of a request has at most {MOST_HEAD} bytes")
         if not line.endswith(b"\n") and (line or self.lines):
             raise ConnectionError("the head broke off")
         self.lines += 1
@@ -105,27 +105,27 @@ class Head:
         return line
 
     def see_that_it_may_come(self, line: bytes) -> None:
-        """A Refusal for a line that isn't of the form of HTTP, or is one too many."""
+        """An HttpRefusal for a line that isn't of the form of HTTP, or is one too many."""
         if self.lines == 1:
             if not BEGIN.fullmatch(line):
-                raise Refusal(400, "head", "a request begins with a method, a path and `HTTP/1.1`, with one space "
+                raise HttpRefusal(400, "head", "a request begins with a method, a path and `HTTP/1.1`, with one space "
                                            "between each two, and ends its lines by CR and LF")
         elif line == END:
             if self.hosts != 1:
-                raise Refusal(400, "head", "a head has one field `Host`")
+                raise HttpRefusal(400, "head", "a head has one field `Host`")
         elif not FIELD.fullmatch(line):
-            raise Refusal(400, "head", "each line of a head is a name, a colon right behind it, and a value in one "
+            raise HttpRefusal(400, "head", "each line of a head is a name, a colon right behind it, and a value in one "
                                        "line without control characters, and ends by CR and LF")
         elif self.lines > MOST_FIELDS + 1:
-            raise Refusal(431, "head", f"the head of a request has at most {MOST_FIELDS} fields")
+            raise HttpRefusal(431, "head", f"the head of a request has at most {MOST_FIELDS} fields")
         self.hosts += line[:5].lower() == b"host:"
 
 
-def json_of(value: object, status: int = 200, head: Pairs = ()) -> Response:
+def json_of(value: object, status: int = 200, head: Pairs = ()) -> HttpResponse:
     """An answer in JSON."""
-    return Response(json.dumps(value, ensure_ascii=False).encode() + b"\n", JSON, status, head)
+    return HttpResponse(json.dumps(value, ensure_ascii=False).encode() + b"\n", JSON, status, head)
 
 
-def text_of(text: str, status: int = 200, head: Pairs = ()) -> Response:
+def text_of(text: str, status: int = 200, head: Pairs = ()) -> HttpResponse:
     """An answer in a line of text."""
-    return Response(text.encode() + b"\n", TEXT, status, head)
+    return HttpResponse(text.encode() + b"\n", TEXT, status, head)

@@ -13,8 +13,8 @@ from typing import Any, Iterator, Sequence, cast
 from nrm.libraries import is_there, lacks
 from nrm.server.status_text import NoStatus, Status
 from nrm.web.followed_journal import Followed, Following
-from nrm.web.messages import Refusal, Request, Response, text_of
-from nrm.web.recent_status import Asked
+from nrm.web.messages import HttpRefusal, HttpRequest, HttpResponse, text_of
+from nrm.web.recent_status import RecentStatus
 
 LIBRARY = "prometheus_client"
 MOST_NAMED = 20  # networks in a sentence
@@ -25,22 +25,22 @@ STARTED = "%Y-%m-%dT%H:%M:%S.%fZ"
 class Watch:
     """The journal, and the server's status."""
     following: Following
-    asked: Asked
+    asked: RecentStatus
 
-    def health(self, asked: Request) -> Response:
+    def health(self, asked: HttpRequest) -> HttpResponse:
         """`ok`, or what is wrong."""
         status = self.asked.status()
         wrong = "; ".join(what_is_wrong(self.following, status))
         return text_of(wrong or "ok", 503 if wrong else 200)
 
-    def metrics(self, asked: Request) -> Response:
+    def metrics(self, asked: HttpRequest) -> HttpResponse:
         """All that is counted."""
         if not is_there(LIBRARY):
-            raise Refusal(501, "library", f"there are no metrics, since {lacks([LIBRARY])}")
+            raise HttpRefusal(501, "library", f"there are no metrics, since {lacks([LIBRARY])}")
         import prometheus_client as client
         registry = client.CollectorRegistry()
         registry.register(cast(Any, self))
-        return Response(client.generate_latest(registry), client.CONTENT_TYPE_LATEST)
+        return HttpResponse(client.generate_latest(registry), client.CONTENT_TYPE_LATEST)
 
     def describe(self) -> list[Any]:
         """What the library would ask for before anything is counted."""

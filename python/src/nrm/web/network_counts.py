@@ -1,7 +1,8 @@
 """What the lines of a network come to: seats, bookings, revenue, answers and refusals, counted as they are read.
 
 The network file says fares and legs, and each row one more line. A booking stands in arrays by its number, with some
-thirty bytes, since there may be millions. What is shown is a `Seen`, made anew when rows have come and never changed.
+thirty bytes, since there may be millions. What is shown is a `CountedNetwork`, made anew when rows have come and never
+changed.
 """
 from __future__ import annotations
 
@@ -21,7 +22,7 @@ IN_WORDS = {Sold: "sold", NoLeg: "no leg", NoFare: "no fare", Unknown: "unknown"
 REFUSALS = (NoLeg, NoFare, Unknown, Overflow)
 
 
-class Row(NamedTuple):
+class JournalRow(NamedTuple):
     """A row of the journal; the time is in milliseconds since 1970 began."""
     number: int
     at: int
@@ -35,7 +36,7 @@ class StrangeRow(ValueError):
 
 
 @dataclass(frozen=True)
-class Booking:
+class CountedBooking:
     """A booking: which line sold it and which gave it back, and the amount given back."""
     number: int
     product: str
@@ -73,13 +74,13 @@ class ProductSeen:
 
 
 @dataclass(frozen=True)
-class Seen:
+class CountedNetwork:
     """A network as its first lines, so many, make it."""
     lines: int = 0
     legs: tuple[LegSeen, ...] = ()
     products: tuple[ProductSeen, ...] = ()
     answers: Mapping[tuple[str, str], int] = field(default_factory=dict)
-    refusals: tuple[Row, ...] = ()  # the last ones, the latest first
+    refusals: tuple[JournalRow, ...] = ()  # the last ones, the latest first
     plans: int = 0  # how many were made
     revenue: int = 0
     withheld: int = 0
@@ -110,12 +111,12 @@ class Counts:
         self.seats, self.bookings = [0] * len(self.products), [0] * len(self.products)
         self.answers: Counter[tuple[str, str]] = Counter()
         self.minutes: Counter[int] = Counter()
-        self.refusals: deque[Row] = deque(maxlen=MOST_REFUSALS)
+        self.refusals: deque[JournalRow] = deque(maxlen=MOST_REFUSALS)
         self.lines = self.plans = self.revenue = self.withheld = 0
         self.product_of, self.party_of = array("H"), array("H")  # by the number of the booking, from 1
         self.sold_by, self.cancelled_by, self.amount_of = array("q"), array("q"), array("q")
 
-    def take(self, row: Row) -> None:
+    def take(self, row: JournalRow) -> None:
         """Takes the next row; a StrangeRow leaves all as it was."""
         try:
             answer = answer_of(row.reply.encode("latin-1", "replace"))
@@ -131,7 +132,7 @@ class Counts:
         if isinstance(answer, REFUSALS):
             self.refusals.appendleft(row)
 
-    def see(self, row: Row, kind: str, words: list[str], answer: Answer) -> None:
+    def see(self, row: JournalRow, kind: str, words: list[str], answer: Answer) -> None:
         """Counts what a line has changed."""
         if row.number != self.lines + 1 or type(answer) not in IN_WORDS:
             raise ValueError(row.number)
@@ -175,17 +176,17 @@ class Counts:
         self.bookings[place] += sign
         self.revenue += sign * party * product.fare
 
-    def booking(self, number: int) -> Booking | None:
+    def booking(self, number: int) -> CountedBooking | None:
         """The booking of a number, if there was one."""
         if not 1 <= number <= len(self.amount_of):  # which is the last to grow
             return None
         at = number - 1
         product, amount = self.products[self.product_of[at]], self.amount_of[at]
         stands = amount == STANDS
-        return Booking(number, product.name, self.party_of[at], product.fare, self.sold_by[at],
-                       None if stands else self.cancelled_by[at], None if stands else amount)
+        return CountedBooking(number, product.name, self.party_of[at], product.fare, self.sold_by[at],
+                              None if stands else self.cancelled_by[at], None if stands else amount)
 
-    def seen(self) -> Seen:
+    def seen(self) -> CountedNetwork:
         """All of it, as it is now."""
         last = max(self.minutes, default=0)
         for it in [it for it in self.minutes if it <= last - 2 * MINUTES]:
@@ -193,5 +194,5 @@ class Counts:
         legs = tuple(LegSeen(it.name, it.authorised, self.sold_on[it.name]) for it in self.legs.values())
         products = tuple(ProductSeen(it.name, it.fare, it.legs, self.bookings[at], self.seats[at])
                          for at, it in enumerate(self.products))
-        return Seen(self.lines, legs, products, dict(self.answers), tuple(self.refusals), self.plans, self.revenue,
-                    self.withheld, dict(self.minutes))
+        return CountedNetwork(self.lines, legs, products, dict(self.answers), tuple(self.refusals), self.plans,
+                              self.revenue, self.withheld, dict(self.minutes))

@@ -5,9 +5,9 @@ from dataclasses import dataclass
 from typing import NamedTuple
 
 from nrm.web.followed_journal import Followed
-from nrm.web.network_counts import ProductSeen, Row
+from nrm.web.network_counts import JournalRow, ProductSeen
 from nrm.web.page_words import WIDE, amount, bars, curve, time_of, why_of
-from nrm.web.priced_networks import Look
+from nrm.web.priced_networks import PricedNetwork
 
 
 class NetworkRow(NamedTuple):
@@ -64,7 +64,7 @@ def row_of(it: Followed, now: int) -> NetworkRow:
     return NetworkRow(it.name, it.mode, it.lines, minutes[-1], sum(minutes), it.seen.sold, it.seen.authorised, it.state)
 
 
-def view_of(it: Followed, look: Look, now: int) -> NetworkView:
+def view_of(it: Followed, look: PricedNetwork, now: int) -> NetworkView:
     """A network's page, at a time in milliseconds."""
     minutes = it.seen.a_minute(now)
     return NetworkView(it, sentence_of(it), tuple(leg_rows(it, look)), it.seen.products,
@@ -82,7 +82,7 @@ def sentence_of(it: Followed) -> str:
             f"earns {amount(seen.revenue)}.{read}{state}")
 
 
-def leg_rows(it: Followed, look: Look) -> list[LegRow]:
+def leg_rows(it: Followed, look: PricedNetwork) -> list[LegRow]:
     """The rows of the legs."""
     rows: list[LegRow] = []
     for leg in it.seen.legs:
@@ -94,12 +94,12 @@ def leg_rows(it: Followed, look: Look) -> list[LegRow]:
     return rows
 
 
-def refusal_row(row: Row) -> RefusalRow:
+def refusal_row(row: JournalRow) -> RefusalRow:
     """A refused line."""
     return RefusalRow(row.number, time_of(row.at), row.desk, row.line, why_of(row))
 
 
-def money_of(it: Followed, look: Look) -> list[tuple[str, str]]:
+def money_of(it: Followed, look: PricedNetwork) -> list[tuple[str, str]]:
     """What was earned, retained, and could have been earned."""
     bound = look.bound
     rows = [("Revenue of the bookings that stand", amount(it.seen.revenue)),

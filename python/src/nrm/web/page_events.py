@@ -7,7 +7,7 @@ import time
 from typing import Callable, Iterator
 
 from nrm.web.followed_journal import Following
-from nrm.web.messages import PASSES, Refusal, Stream
+from nrm.web.messages import PASSES, HttpRefusal, HttpStream
 
 MOST = 100  # streams at a time, so that others are answered too
 WAITS = 5.0  # seconds, after which what goes by the clock alone may have changed
@@ -23,11 +23,11 @@ class Streams:
         self.following = following
         self.free = threading.BoundedSemaphore(most)
 
-    def begin(self, changed: Changed) -> Stream:
+    def begin(self, changed: Changed) -> HttpStream:
         """A stream of what a call says that has changed."""
         if not self.free.acquire(blocking=False):
-            raise Refusal(503, "streams", "as many pages are kept up to date as may be", PASSES)
-        return Stream(self.pieces(changed), KIND, self.free.release)
+            raise HttpRefusal(503, "streams", "as many pages are kept up to date as may be", PASSES)
+        return HttpStream(self.pieces(changed), KIND, self.free.release)
 
     def pieces(self, changed: Changed) -> Iterator[bytes]:
         """The events, with a sign of life where there are none for long."""
@@ -37,7 +37,7 @@ class Streams:
             behind = self.following.round
             try:
                 new = changed()
-            except Refusal:  # the network is gone with its journal
+            except HttpRefusal:  # the network is gone with its journal
                 return
             if new:
                 yield b"data: %s\n\n" % json.dumps(new).encode()

@@ -9,7 +9,7 @@ from fractions import Fraction
 from typing import Sequence
 
 from nrm.replies import NoAnswer, NoFare, NoLeg, Overflow, Unknown, answer_of
-from nrm.web.network_counts import Row
+from nrm.web.network_counts import JournalRow
 
 BEGINNING = datetime(1970, 1, 1, tzinfo=timezone.utc)
 WIDE, HIGH = 100, 24  # of a small picture
@@ -49,7 +49,7 @@ def why(line: str, reply: str) -> str:
     return "the linear program of the plan is too large" if isinstance(answer, Overflow) else reply
 
 
-def why_of(row: Row) -> str:
+def why_of(row: JournalRow) -> str:
     """Why the line of a row was refused."""
     return why(row.line, row.reply)
 

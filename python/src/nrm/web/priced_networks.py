@@ -14,9 +14,9 @@ from fractions import Fraction
 from typing import Callable, Mapping, NamedTuple
 
 from nrm.replies import Hindsight, NoAnswer, Plan, answer_of
-from nrm.web.connections import Kept, Who
+from nrm.web.connections import Connections, Who
 from nrm.web.followed_journal import Followed, Following
-from nrm.web.messages import Refusal
+from nrm.web.messages import HttpRefusal
 
 ASKERS = 4
 BOUND_EVERY = 30.0  # seconds
@@ -32,7 +32,7 @@ class Priced(NamedTuple):
 
 
 @dataclass(frozen=True)
-class Look:
+class PricedNetwork:
     """What the server has told of a network."""
     priced: tuple[Priced, ...] = ()  # the latest last
     bound: Hindsight | None = None
@@ -45,9 +45,9 @@ class Look:
 
 
 @dataclass
-class Entry:
+class ViewedNetwork:
     """A network that somebody looks at, and when what was asked last."""
-    look: Look = field(default_factory=Look)
+    look: PricedNetwork = field(default_factory=PricedNetwork)
     looked_at: float = 0.0
     tried_at: float = float("-inf")
     bound_at: float = float("-inf")
@@ -55,21 +55,21 @@ class Entry:
     is_asked: bool = False
 
 
-class Looks:
+class PricedNetworks:
     """All networks that somebody looks at."""
 
-    def __init__(self, kept: Kept, own: Callable[[str], Who], following: Following,
+    def __init__(self, kept: Connections, own: Callable[[str], Who], following: Following,
                  clock: Callable[[], float] = time.monotonic) -> None:
         self.kept, self.own, self.following, self.clock = kept, own, following, clock
         self.lock = threading.Lock()
-        self.entries: dict[str, Entry] = {}
+        self.entries: dict[str, ViewedNetwork] = {}
         self.wanted: queue.Queue[tuple[Followed, bool, bool]] = queue.Queue()
         self.askers: list[threading.Thread] = []
 
-    def of(self, followed: Followed) -> Look:
+    def of(self, followed: Followed) -> PricedNetwork:
         """What is known of a network that somebody looks at now; what is due is asked meanwhile."""
         with self.lock:
-            entry = self.entries.setdefault(followed.name, Entry())
+            entry = self.entries.setdefault(followed.name, ViewedNetwork())
             entry.looked_at = self.clock()
             self.ask_what_is_due(followed, entry, is_looked_at=True)
             return entry.look
@@ -84,7 +84,7 @@ class Looks:
                 elif followed:
                     self.ask_what_is_due(followed, entry, is_looked_at=False)
 
-    def ask_what_is_due(self, followed: Followed, entry: Entry, is_looked_at: bool) -> None:
+    def ask_what_is_due(self, followed: Followed, entry: ViewedNetwork, is_looked_at: bool) -> None:
         """Has a plan asked for that isn't known, and, for who looks, a bound that is old; what failed a while later."""
         now = self.clock()
         if entry.is_asked or followed.halted or (entry.look.why and now - entry.tried_at < BOUND_EVERY):
@@ -109,15 +109,15 @@ class Looks:
         """Asks what is wanted, one after the other."""
         while True:
             followed, wants_plan, wants_bound = self.wanted.get()
-            look = self.entries.get(followed.name, Entry()).look
+            look = self.entries.get(followed.name, ViewedNetwork()).look
             try:
                 look = self.asked(followed, look, wants_plan, wants_bound)
-            except Refusal as refusal:
+            except HttpRefusal as refusal:
                 look = replace(look, why=refusal.why)
             self.take(followed, look, wants_bound)
             self.following.tell_of_news()
 
-    def take(self, followed: Followed, look: Look, was_bound: bool) -> None:
+    def take(self, followed: Followed, look: PricedNetwork, was_bound: bool) -> None:
         """Keeps what was told."""
         with self.lock:
             entry = self.entries.get(followed.name)
@@ -126,7 +126,7 @@ class Looks:
                 if was_bound and not look.why:
                     entry.bound_at, entry.lines_at_bound = self.clock(), followed.seen.lines
 
-    def asked(self, followed: Followed, look: Look, wants_plan: bool, wants_bound: bool) -> Look:
+    def asked(self, followed: Followed, look: PricedNetwork, wants_plan: bool, wants_bound: bool) -> PricedNetwork:
         """What the server tells now."""
         who, priced, bound = self.own(followed.name), look.priced, look.bound
         try:
@@ -136,5 +136,5 @@ class Looks:
                 priced = (*priced, new)[-MOST_PLANS:]
             told = answer_of(self.kept.reply(who, "hindsight")) if wants_bound else None
         except NoAnswer:
-            raise Refusal(502, "strange", "the server's answer is none")
-        return Look(priced, told if isinstance(told, Hindsight) else bound)
+            raise HttpRefusal(502, "strange", "the server's answer is none")
+        return PricedNetwork(priced, told if isinstance(told, Hindsight) else bound)

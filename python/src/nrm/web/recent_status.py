@@ -10,7 +10,7 @@ from nrm.server.status_text import NoStatus, Status
 LEAST_SECONDS = 1.0  # between two times that the server is asked
 
 
-class Asked:
+class RecentStatus:
     """The status as it was a moment ago, since whoever asks for it may ask often."""
 
     def __init__(self, ask: Callable[[], Status], every: float = LEAST_SECONDS) -> None:

@@ -12,15 +12,15 @@ from urllib.parse import unquote
 from nrm.journal.networks import NAME
 from nrm.libraries import is_there, lacks
 from nrm.server.status_text import ask_status
-from nrm.web.connections import Kept, Who, desk_of_token, own_desk
+from nrm.web.connections import Connections, Who, desk_of_token, own_desk
 from nrm.web.followed_journal import Following
 from nrm.web.html_pages import Pages
 from nrm.web.line_accounts import Accounts
-from nrm.web.messages import JSON, Answer, Refusal, Request, Response
+from nrm.web.messages import JSON, Answer, HttpRefusal, HttpRequest, HttpResponse
 from nrm.web.metrics import LIBRARY, Watch
 from nrm.web.posted_lines import Door, no_network
-from nrm.web.priced_networks import Looks
-from nrm.web.recent_status import Asked
+from nrm.web.priced_networks import PricedNetworks
+from nrm.web.recent_status import RecentStatus
 
 PAGES_LIBRARY = "jinja2"
 DESCRIPTION = Path(__file__).with_name("openapi.json")
@@ -29,7 +29,7 @@ OFF = {PAGE: "the page is off: `--page` enables it", DOOR: "the door is off: `--
 
 
 @dataclass(frozen=True)
-class Settings:
+class WebSettings:
     """The journal and the socket, what is on, and in whose name this process looks."""
     journal: str
     socket: str
@@ -57,16 +57,16 @@ class Route(NamedTuple):
 class Web:
     """All that answers: what follows the journal, what asks the server, and the routes."""
 
-    def __init__(self, settings: Settings) -> None:
+    def __init__(self, settings: WebSettings) -> None:
         self.settings = settings
         self.following = Following(settings.journal)
-        self.kept = Kept(settings.socket, settings.seconds)
+        self.kept = Connections(settings.socket, settings.seconds)
         self.name: str | None = None
         self.naming = threading.Lock()
-        asked = Asked(partial(ask_status, settings.socket, settings.seconds))
+        asked = RecentStatus(partial(ask_status, settings.socket, settings.seconds))
         self.watch = Watch(self.following, asked)
         self.door = Door(self.kept, self.following, self.own, settings.needs_token)
-        self.looks = Looks(self.kept, self.own, self.following)
+        self.looks = PricedNetworks(self.kept, self.own, self.following)
         self.pages = Pages(self.following, self.looks, settings.journal,
                            Accounts(settings.journal, settings.has_accounts), asked)
         self.routes = [*watching(self.watch), *of_door(self.door), *of_page(self.pages)]
@@ -79,22 +79,22 @@ class Web:
                 self.name = desk_of_token(self.settings.socket, token, self.settings.seconds) if token else own_desk()
         return Who(network, self.name, token)
 
-    def answer(self, asked: Request) -> Answer:
-        """What is answered to a request; a Refusal where nothing else is."""
+    def answer(self, asked: HttpRequest) -> Answer:
+        """What is answered to a request; an HttpRefusal where nothing else is."""
         method = "GET" if asked.method == "HEAD" else asked.method
         found = [(it, words) for it in self.routes if (words := it.words_of(asked.path)) is not None]
         if not found:
-            raise Refusal(404, "path", "there is nothing at this path")
+            raise HttpRefusal(404, "path", "there is nothing at this path")
         for route, words in found:
             if route.method == method:
                 return self.called(route, asked, words)
         methods = ", ".join(it.method for it, _ in found)
-        raise Refusal(405, "method", f"this path takes {methods}", (("Allow", methods),))
+        raise HttpRefusal(405, "method", f"this path takes {methods}", (("Allow", methods),))
 
-    def called(self, route: Route, asked: Request, words: list[str]) -> Answer:
+    def called(self, route: Route, asked: HttpRequest, words: list[str]) -> Answer:
         """The answer of a route, if its part is on and the network's name may be one."""
         if not self.is_on(route.part):
-            raise Refusal(404, "off", OFF[route.part])
+            raise HttpRefusal(404, "off", OFF[route.part])
         if route.path.startswith("/networks/") and not NAME.fullmatch(words[0]):
             raise no_network()
         return route.call(asked, *words)
@@ -144,6 +144,6 @@ def of_page(pages: Pages) -> list[Route]:
             Route("GET", f"{network}/lines/{{number}}/why", PAGE, pages.account)]
 
 
-def description(asked: Request) -> Response:
+def description(asked: HttpRequest) -> HttpResponse:
     """The description of all routes, for programs."""
-    return Response(DESCRIPTION.read_bytes(), JSON)
+    return HttpResponse(DESCRIPTION.read_bytes(), JSON)

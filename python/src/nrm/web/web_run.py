@@ -9,7 +9,7 @@ import time
 from nrm.journal.choosing_store import using
 from nrm.server.notify import Manager
 from nrm.web.http_server import Listening, Site
-from nrm.web.routes import Settings, Web
+from nrm.web.routes import Web, WebSettings
 
 ENDS = (signal.SIGTERM, signal.SIGINT, signal.SIGHUP)
 SECOND = 1.0
@@ -35,7 +35,7 @@ class Signs:
             self.manager.works(self.status())
 
 
-def serve(settings: Settings, listening: Listening) -> int:
+def serve(settings: WebSettings, listening: Listening) -> int:
     """Answers until this process is told to end, and gives the status."""
     with using(settings.journal):
         pass  # it is one
