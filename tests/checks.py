@@ -65,10 +65,10 @@ def words_of(manual, others=None, **numbers):
         words.add_argument(f"--{name}", type=int, default=number)
     add_program(words)
     given = words.parse_args()
-    given.program = placed(given.program)
+    given.program = itself(placed(given.program))
     for name, path in (others or {}).items():
         said = getattr(given, name)
-        setattr(given, name, placed(said) if said else named(f"NRM_{name.upper()}", path))
+        setattr(given, name, itself(placed(said) if said else named(f"NRM_{name.upper()}", path)))
     return given
 
 
@@ -76,7 +76,7 @@ def program_of(manual):
     """The program of a command line that names nothing else."""
     words = argparse.ArgumentParser(usage=manual)
     add_program(words)
-    return placed(words.parse_args().program)
+    return itself(placed(words.parse_args().program))
 
 
 def add_program(words):
@@ -89,13 +89,17 @@ def named(variable, path):
 
 
 def placed(words):
-    """The words of a program, which may run in another folder; if it isn't there the tests end, and that is told. In the
-    place of a script at the top, which answers some words itself, it is the program that the script builds if need
-    be."""
+    """The words of a program, which may run in another folder; if it isn't there the tests end, and that is told."""
     words = [os.path.abspath(it) if os.path.exists(it) else it for it in words]
     if not shutil.which(words[0]):
         sys.exit(f"{os.path.basename(sys.argv[0])}: {words[0]} isn't a program that can be run; the scripts at the top "
                  "prove and build theirs, as `./nrm --build`")
+    return words
+
+
+def itself(words):
+    """The words of a program: in the place of a script at the top, which answers some words by itself, those of what the
+    script builds if need be."""
     name = os.path.basename(words[0])
     program = os.path.join(TOP, "crates", name, "out", name)
     is_script = words[0] == os.path.join(TOP, name) and name in SCRIPTS
