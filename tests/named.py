@@ -4,11 +4,10 @@
     tests/named.py           checks
     tests/named.py --map     writes the drawing of docs/developer/map.md as crates.txt has the layers
 
-Of proofs.md and claims.md it checks each file of definitions or proofs (`nrm_lp/specs/Ends`, or in a list
-`nrm_lp/specs`: `Ends`, `Laws`), each public function (`nrm_lp::weakly_dual`), and each clause that is named with a
-function (`nrm_cli::run`, clause `ends`, or clause `ends` of `run`). claims.md must name each file of definitions that a
-public contract reaches. Of the table in proofs.md it checks too that a file has the names that stand behind it. In
-crates.txt no crate may depend on one of a higher layer, the drawing of map.md is compared with its layers, and each
+Of claims.md it checks each file of definitions or proofs (`nrm_lp/specs/Ends`, or in a list `nrm_lp/specs`: `Ends`,
+`Laws`), each public function (`nrm_lp::weakly_dual`), each clause that is named with a function (`nrm_cli::run`, clause
+`ends`, or clause `ends` of `run` and of `run_kept`), and that a file has the names that stand behind it. claims.md must
+name each file of definitions that a public contract reaches, and beside each claim what carries it. In crates.txt no crate may depend on one of a higher layer, the drawing of map.md is compared with its layers, and each
 layer must have a paragraph there that names its crates; crates whose names end in `_tests` alone have tests. README.md
 must have a line for each layer, from above, and at most 120 lines and 1,100 words. Of CONTRIBUTING.md each path must be
 there (`nrm_stream/src/command.rt`, `docs/commands.md`), and each clause that it quotes must be a line of the code. Each
@@ -30,6 +29,7 @@ TOP = os.path.dirname(os.path.dirname(os.path.realpath(__file__)))
 FILE = r"nrm\w*/(?:specs|proofs)(?:/\w+)+"
 LIST = r"\s*((?:`[\w-]+`(?:,\s+|\s+and\s+)?)+)"
 MOST_LINES, MOST_WORDS = 120, 1100  # of the first page
+TOP_CALLS = {"run": "nrm_cli", "run_kept": "nrm_kept_cli", "run_why": "nrm_why_cli", "run_desks": "nrm_desks_cli"}
 SHELVES = ("analyst", "operator", "auditor", "developer")
 NOT_RELEASED = re.compile(r"\]\(((?:\.\./)*(?:crates|tests|tools|\.ci|python/tests)/[^)]*)\)")
 
@@ -49,8 +49,10 @@ def items_of(path):
     if not os.path.exists(os.path.join(TOP, path)):
         return None
     text = read(path)
+    cases = re.findall(r"^ *(?:pub )?data .* where\n((?:(?: .*)?\n)+)", text, re.M)
     in_module, at_top = r" +(?:abbrev )?pub (?:record |data )?", r"(?:abbrev |pub |record |data )*"
-    return set(re.findall(rf"^(?:{in_module}|{at_top})([\w-]+)(?: \(| \{{| :|$)", text, re.M))
+    declared = re.findall(rf"^(?:{in_module}|{at_top})([\w-]+)(?: \(| \{{| :|$)", text, re.M)
+    return {*declared, *re.findall(r"^ +([\w-]+) :", "".join(cases), re.M)}
 
 
 def functions_of(crate):
@@ -117,8 +119,9 @@ def look_everywhere(document, names):
             names.function(document, crate, name)
     for crate, name, clauses in re.findall(rf"`(nrm\w*)::(?:\w+::)*(\w+)`, clauses?{LIST}", text):
         names.function(document, crate, name, ticked(clauses))
-    for clauses in re.findall(rf"[Cc]lauses?{LIST}\s*of\s`run`", text):
-        names.function(document, "nrm_cli", "run", ticked(clauses))
+    for clauses, calls in re.findall(rf"[Cc]lauses?{LIST}\s*((?:(?:\sand\s)?of\s`run\w*`)+)", text):
+        for call in ticked(calls):
+            names.function(document, TOP_CALLS.get(call, call), call, ticked(clauses))
     for laws in re.findall(rf"\b[Ll]aws?{LIST}", text):
         names.laws(document, [law for law in ticked(laws) if "::" not in law])
 
@@ -135,10 +138,14 @@ def look_for_definitions(document, names):
         names.look(document, f"among the definitions to believe {file}", file in named)
 
 
-def look_in_table(document, names):
-    """The names behind each file of the table."""
-    for path, listed in re.findall(rf"`({FILE})`: {LIST}", read(document)):
+def look_in_tables(document, names):
+    """The names behind each file, and beside each claim what carries it."""
+    text = read(document)
+    for path, listed in re.findall(rf"`({FILE})`: {LIST}", text):
         names.items(document, path, ticked(listed))
+    for claim, carriers, _ in re.findall(r"^\| (.*?) \| (.*?) \| (.*?)\|$", text.partition("\n## The ")[0], re.M):
+        names.look(document, f"a clause, law or function beside: {claim}",
+                   re.search(r"clauses? `|laws? `|`nrm\w*::|the same|function|^Clause", carriers))
 
 
 def listed_layers():
@@ -261,10 +268,9 @@ def main():
         Path(TOP, "docs", "developer", "map.md").write_text(drawn(read("docs/developer/map.md")), encoding="utf-8")
         return 0
     names = Names()
-    for document in ("docs/auditor/proofs.md", "docs/auditor/claims.md"):
-        look_everywhere(document, names)
+    look_everywhere("docs/auditor/claims.md", names)
     look_for_definitions("docs/auditor/claims.md", names)
-    look_in_table("docs/auditor/proofs.md", names)
+    look_in_tables("docs/auditor/claims.md", names)
     look_at_layers("crates.txt", names)
     look_in_map("docs/developer/map.md", names)
     look_for_tests("docs/developer/map.md", names)
