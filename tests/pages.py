@@ -31,7 +31,7 @@ THREE_MACHINES = "it is of three machines, for which the tests of the fleet have
 NOT_RUN = {  # by the beginning of the commands; the reason
     "nrm plan bid network.csv > plan.new": USERS_OWN, "nrm print network.csv > canonical.new": USERS_OWN,
     "nrm print old.csv > new.part": USERS_OWN, "sender |": USERS_OWN, "head -c 123 replies": USERS_OWN,
-    "nrm-tools resume network.csv": USERS_OWN, "awk '/^ok /": USERS_OWN,
+    "awk '/^ok /": USERS_OWN,
     "/usr/bin/python3 -m distributed": SERVERS, "openssl req -x509 -newkey rsa": SERVERS,
     "nrm-tools simulate": MINUTES, "nrm-tools authorise": MINUTES,
     "nrm-tools thresholds mine/train.csv 5 --search": MINUTES,
