@@ -3,7 +3,8 @@
 A block is what is indented by four blanks or more behind an empty line. A part of it that begins with the name of a
 command is run; any other shows something. What is shown behind commands must have been printed by those above it under
 the same heading, or written by them into files of the folder `mine`, which the pages write to. Lines of a stream with
-their replies beside them may also stand above the commands that answer that stream.
+their replies beside them may also stand above the commands that answer that stream. Where a page links to `the first
+commands of` another, these are run there.
 """
 import os
 import re
@@ -22,6 +23,7 @@ ASSIGNED = re.compile(r"[a-z]+=")
 TOLD = re.compile(r"nrm-tools [a-z]+: ")  # what a command tells on standard error
 ELIDED = re.compile(r"\s*\.\.+\s*")  # a line that stands for several
 ANSWERED = re.compile(r"(?:book|cancel|leg|plan|reoptimise|hindsight)\b.* {2,}\S")  # a line of a stream, and its reply
+FIRST = re.compile(r"\[the first commands of [^]]*\]\(([^)#]*\.md)")
 STREAM = re.compile(r" < (\S+)$")  # the file at the end of the commands that answer it
 MARK = "blocks.py"
 
@@ -72,6 +74,8 @@ def parts_of(path):
             part.lines.append(line)
             continue
         part, is_block = None, is_block and not line.strip()
+        if linked := FIRST.search(line):
+            found.append(next(it for it in parts_of(path.parent / linked[1]) if it.is_run()))
         if line.startswith("#"):
             found.append(None)  # a heading: what is shown below it isn't of the commands above
     exchange = None
