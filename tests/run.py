@@ -581,7 +581,7 @@ def cases_of(pattern):
 def programs_of(given):
     """The command of each program by its name."""
     words = {"nrm": given.program, "nrm_kept": given.kept}
-    return {name: checks.placed(some or [os.path.join(TOP, name)]) for name, some in words.items()}
+    return {name: checks.itself(checks.placed(some or [os.path.join(TOP, name)])) for name, some in words.items()}
 
 
 def outcome(case, program):
