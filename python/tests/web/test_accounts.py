@@ -64,6 +64,7 @@ class AccountsTest(WebTest):
             begun = (self.folder / "begun").read_text().strip()
             wait_for(lambda: not Path(f"/proc/{begun}/exe").exists(), "the end of what was begun", 20)
             self.file("nrm_why", "#!/bin/sh\nexit 7\n")
+            accounts.seconds = 60  # however busy the machine is
             failed = web.get(f"{LINE}/why")
             self.assertEqual(failed.status, 501)
             self.want_in(failed.text, "status 7")
