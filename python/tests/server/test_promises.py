@@ -118,6 +118,7 @@ class Promises(ServeTest):
         with self.served(journal) as serve:
             for _ in range(2):
                 self.assertEqual(talk(serve, b"desk D1\n"), b"closed halted\n")
+                wait_for(lambda: rows_in(journal, HALTED) != [(None,)], "a halt that is written")
                 self.change(journal, "line_stays", allow)
             self.change(journal, "line_stays", "UPDATE line SET reply = 'ok 1'")
             self.assertEqual(talk(serve, b"desk D1 1\nbook LOC 1\nbook LOC 1\n"), b"at 1\nok 1\nok 2\n")

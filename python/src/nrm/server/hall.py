@@ -398,13 +398,17 @@ class Hall:
         read: then it is this one that ends."""
         number, epoch = session.network.number, session.network.epoch
 
-        def halting(tables: Tables) -> str | None:
+        def found(tables: Tables) -> str | None:
             if head_of(tables, number)[0] != epoch:
                 return None
-            found = tables.execute("SELECT line, desk, sequence, reply FROM line WHERE network = ? AND number = ?",
-                                   [number, row]).fetchone()
-            told = f"row {row}{', `{}` of {} {} with the reply `{}`,'.format(*found) if found else ''} {why}"
-            self.store.halt(number, epoch, told)
+            line = tables.execute("SELECT line, desk, sequence, reply FROM line WHERE network = ? AND number = ?",
+                                  [number, row]).fetchone()
+            return f"row {row}{', `{}` of {} {} with the reply `{}`,'.format(*line) if line else ''} {why}"
+
+        def halting(tables: Tables) -> str | None:
+            told = found(tables)
+            if told is not None:
+                self.store.halt(number, epoch, told)
             return told
 
         def tell(told: str | None) -> None:
@@ -415,11 +419,13 @@ class Hall:
                 self.owning.lost(session)
             else:
                 self.halted(session, row, told)
+            self.end_if_done()
 
         session.network = replace(session.network, halted=why)  # so that nobody is told otherwise meanwhile
         self.halting.add(number)
         self.owning.give_up(number)
-        self.changer.ask(halting, tell)
+        # whose the network is can be read while others write, so nobody is told that it is halted where it is another's
+        self.asker.ask(found, lambda told: tell(None) if told is None else self.changer.ask(halting, tell))
 
     def halted(self, session: Session, row: int, why: str) -> None:
         """A network is halted in the journal: its program ends, and its clients are told."""
@@ -466,7 +472,7 @@ class Hall:
                 session.end()
             if session.state == FOLLOWS:
                 session.kill()
-        is_done = not self.clients and all(it.process is None for it in self.sessions.values())
+        is_done = not (self.clients or self.halting) and all(it.process is None for it in self.sessions.values())
         self.loop.is_over = self.loop.is_over or is_done
 
     # Once a second
