@@ -36,19 +36,6 @@ pub record IsWalk (p : PointsValue) (pieces done a : ℕ) (lengths : List ℕ) :
   pub is_rest : best_into p (pieces - done) a (length p.values - a) ≡ Some rest
   pub joined : lengths ++ rest.lengths ≡ whole.lengths
 
-pub walk-starts : (p : PointsValue) (pieces : ℕ) (lengths : List ℕ) → (d : Costed) × (into_pieces p pieces ≡ Some d) → lengths ≡ [] → IsWalk p pieces 0 0 lengths
-walk-starts p pieces lengths (d, e) none = record {
-  within = omega arith;
-  whole = d;
-  is_whole = e;
-  rest = d;
-  is_rest = ap₂ (λ k n. best_into p k 0 n) (plain pieces) (plain (length p.values)) ∙ e;
-  joined = ap (λ ls. ls ++ d.lengths) none;
-}
-  where
-    plain : (n : ℕ) → n - 0 ≡ n
-    plain n = omega arith
-
 pub record HasLed (p : PointsValue) (pieces a n : ℕ) (d : Costed) : Type 0 where
   pub first : ℕ
   pub few : first ≤ n

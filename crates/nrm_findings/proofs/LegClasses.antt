@@ -29,11 +29,7 @@ abbrev asked_at : NetworkValue → ℕ → Asked
 asked_at net j = record { fare = fare_of (inventory_of net) j; seats = total_to_come net j 1 }
 
 module _ (net : NetworkValue) (i : ℕ) (p : PointsValue) (of : ArePointsOf (asked_on net i) p) where
-  -- where there is no value no product uses the leg
-  pub unused-leg : p.values ≡ [] → products_on (inventory_of net) i ≡ []
-  unused-leg none = no-fares (asked_at net) (products_on (inventory_of net) i) (subst (λ (values : List ℕ). All (Contains values) (fares_of (asked_on net i))) none of.values.each)
-
-  -- and where there is one some product does
+  -- where there is a value some product uses the leg
   pub used-leg : p.values ≢ [] → products_on (inventory_of net) i ≢ []
   used-leg some none = some (no-values p.values (subst (λ (fares : List ℕ). All (Contains fares) p.values) (ap (λ (js : List ℕ). fares_of (map (asked_at net) js)) none) of.values.only))
 

@@ -43,9 +43,6 @@ module _ (xs : List Fraction) (k d : ℕ) (x : Fraction) (run : IsRun xs k d) (w
   split : drop k xs ≡ x ∷ drop (k + 1) xs
   split = drop_more xs k (whole (pos 0)) within ∙ ap (λ y. y ∷ drop (k + 1) xs) is
 
-  pub run_fault : size_limit ≤ lcm x.den d → first_reaching size_limit (running 1 xs) ≡ Some (pos (lcm x.den d))
-  run_fault l = sym run.rest ∙ ap (λ ys. first_reaching size_limit (running d ys)) split ∙ reaching_yes (pos (lcm x.den d)) (running (lcm x.den d) (drop (k + 1) xs)) (le-leb size_limit (lcm x.den d) l)
-
   pub run_more : lcm x.den d < size_limit → IsRun xs (k + 1) (lcm x.den d)
   run_more l = record {
     some = lcm_pos x.den d (den_pos x) run.some;

@@ -142,19 +142,6 @@ pub cut-next : (bytes : List ℕ) (end : ℕ) → end < length bytes
 cut-next bytes end short =
     sym (ap cut_at_commas (take_more bytes end 0 short) ∙ fold-append after_byte ([], []) (take end bytes) (get_or bytes end 0 ∷ []))
 
--- before the first byte
-pub cut-none : (bytes starts : List ℕ) → length starts ≡ 20 → get_or starts 0 0 ≡ 0 → CutTo bytes 0 ([], []) 0 starts
-cut-none bytes starts places first = record {
-  counted = refl;
-  few = omega arith;
-  places = places;
-  start = 0;
-  low = omega arith;
-  begun = refl;
-  kept = λ at. first;
-  held = λ k short most. absurd (omega arith);
-}
-
 -- the line as a text of its own
 pub held-alone : (bytes : List ℕ) (end : ℕ) (fields : Row) (starts : List ℕ) → end ≤ length bytes → Held bytes (end + 1) fields starts
     → Held (take end bytes) (length (take end bytes) + 1) fields starts

@@ -25,7 +25,3 @@ module _ (line : ℕ → List ℕ) (numbers : List ℕ) (k : ℕ) (a b c : Optio
       sym (flat_map-append line (take (k + 1) numbers) (drop (k + 1) numbers)) ∙ ap (flat_map line) (take-append-drop (k + 1) numbers) in
       let here = AppendsFront-after a b c (flat_map line (take k numbers)) (line (get_or numbers k 0)) first front in
       subst (AppendsFront a c) all (AppendsFront-more a c so_far (flat_map line (drop (k + 1) numbers)) (subst (AppendsFront a c) (sym (one-more short)) here))
-
-  -- all lines went out
-  pub all-sent : length numbers ≤ k → Appends a b (flat_map line (take k numbers)) → Appends a b (flat_map line numbers)
-  all-sent all sent = subst (λ (xs : List ℕ). Appends a b (flat_map line xs)) (take_all k numbers all) sent

@@ -33,14 +33,6 @@ pub record IsWalked (a : ProgramValue) (s : TableauValue) (pivots : ℕ) : Type 
 pub walk_left : TableauValue → ℕ
 walk_left s = rise_left size_limit s.program s.table
 
-pub walk_begins : (a : ProgramValue) (s : TableauValue) → s ≡ record { program = a; table = first_tableau a } → IsWalked a s 0
-walk_begins a s e = record {
-  program = ap (λ (s : TableauValue). s.program) e;
-  finished = 0;
-  reached = record { path = ap (λ (s : TableauValue). Some s.table) (sym e); small = λ m u l f. absurd (omega (arith, l)) };
-  counted = refl;
-}
-
 module _ (a : ProgramValue) (s : TableauValue) (pivots : ℕ) (walked : IsWalked a s pivots) where
   own_reached : Reaches size_limit s.program walked.finished s.table
   own_reached = subst (λ b. Reaches size_limit b walked.finished s.table) (sym walked.program) walked.reached
@@ -70,16 +62,6 @@ module _ (a : ProgramValue) (s : TableauValue) (pivots : ℕ) (walked : IsWalked
         subst (λ t. rise_left size_limit next.program t < rise_left size_limit s.program s.table) next_is
         (subst (λ b. rise_left size_limit b (pivot s.table (row_number (leaving s.program s.table col)) col) < rise_left size_limit s.program s.table) (sym (ap (λ (s : TableauValue). s.program) made))
         (rise_falls size_limit (omega arith) s.program walked.finished s.table col own_reached enters small))
-
-  -- a pivot that is Large, or finds no memory
-  pub pivot_fails : (f : RowFault) → IsFault f (pivot_large size_limit s.program s.table) → IsSolveFault a (fault_after pivots f)
-  pivot_fails row.NoMemory e = tt
-  pivot_fails (row.Large n) e = (walked.finished, (s.table, walked.reached, inl (ap (λ b. pivot_large size_limit b s.table) (sym walked.program) ∙ e)), walked.counted)
-
-  -- the end of the path
-  pub closing_fails : entering s.table ≡ None → (f : RowFault) → IsFault f (closing_large size_limit s.program s.table) → IsSolveFault a (fault_after pivots f)
-  closing_fails last row.NoMemory e = tt
-  closing_fails last (row.Large n) e = (walked.finished, (s.table, walked.reached, inr (last, ap (λ b. closing_large size_limit b s.table) (sym walked.program) ∙ e)), walked.counted)
 
   pub closing_is : entering s.table ≡ None → (made : Certificate) → made ≡ certificate s.program s.table → closing_large size_limit s.program s.table ≡ None → IsClosing a made
   closing_is last made e small = (walked.finished, s.table, (walked.reached, last, ap (λ b. closing_large size_limit b s.table) (sym walked.program) ∙ small), e ∙ ap (λ b. certificate b s.table) walked.program)

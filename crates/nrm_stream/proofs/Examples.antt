@@ -1,7 +1,8 @@
 -- Lines, and what they ask for.
 use Rattle.std.proofs.Common.{◌≡◌, [], ◌∷◌, codes, refl, replicate, length, arith, Some, None}
+use Rattle.std.specs.Fmt.{digits}
 use Rattle.nrm_stream.specs.Lines.{lines_of, whole_lines}
-use Rattle.nrm_stream.specs.Commands.{command_of, commands_of, whole_commands, IsCommand}
+use Rattle.nrm_stream.specs.Commands.{command_of, command_text, commands_of, whole_commands, IsCommand}
 use Rattle.nrm_stream.specs.Splitting.{Feeds, finished, kept_of}
 use Rattle.nrm_stream.specs.declared.command.Command.TheVariants as command
 
@@ -135,3 +136,40 @@ left_without_a_line_feed = refl
 
 blank_behind_a_word : (command_of (codes "plan ") ≡ command.Bad) × (command_of (codes "hindsight ") ≡ command.Bad)
 blank_behind_a_word = (refl, refl)
+
+-- the words of each command, and what is read of them
+written_request : command_text (command.Book (codes "ABL") 999) ≡ codes "book ABL 999"
+unfolding digits
+written_request = refl
+
+written_cancellation : command_text (command.Cancel 999999999999) ≡ codes "cancel 999999999999"
+unfolding digits
+written_cancellation = refl
+
+written_reoptimisation : command_text (command.Reoptimise 99) ≡ codes "reoptimise 99"
+unfolding digits
+written_reoptimisation = refl
+
+written_leg : command_text (command.Leg (codes "AB")) ≡ codes "leg AB"
+written_leg = refl
+
+written_words : (command_text command.Hindsight ≡ codes "hindsight") × (command_text command.Plan ≡ codes "plan") × (command_text command.Bad ≡ codes "bad")
+written_words = (refl, refl, refl)
+
+request_read_back : command_of (command_text (command.Book (codes "ABL") 999)) ≡ command.Book (codes "ABL") 999
+unfolding digits
+request_read_back = refl
+
+cancellation_read_back : command_of (command_text (command.Cancel 999999999999)) ≡ command.Cancel 999999999999
+unfolding digits
+cancellation_read_back = refl
+
+reoptimisation_read_back : command_of (command_text (command.Reoptimise 99)) ≡ command.Reoptimise 99
+unfolding digits
+reoptimisation_read_back = refl
+
+leg_read_back : command_of (command_text (command.Leg (codes "AB"))) ≡ command.Leg (codes "AB")
+leg_read_back = refl
+
+words_read_back : (command_of (command_text command.Hindsight) ≡ command.Hindsight) × (command_of (command_text command.Plan) ≡ command.Plan) × (command_of (command_text command.Bad) ≡ command.Bad)
+words_read_back = (refl, refl, refl)

@@ -7,3 +7,4 @@ pub mod KeptOfSomeLine  -- what a splitter keeps is what is kept of some line
 pub mod LongLines  -- a line of more than 22 bytes is bad
 pub mod Pieces  -- however a stream is cut, feeding its pieces gives the same commands
 pub mod Searches  -- the place of a byte, where it is known that none comes before some place
+pub mod Written  -- the words of a command are read as it

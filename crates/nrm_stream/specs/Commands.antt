@@ -1,11 +1,12 @@
 -- The command of a line.
-use Rattle.std.specs.Prelude.{ℕ, ◌≤◌, ◌==◌, List, [], ◌∷◌, map, codes, bytes_eq, Option, Some, None, ⊤, if◌then◌else◌}
+use Rattle.std.specs.Prelude.{ℕ, ◌≡◌, ◌≤◌, ◌==◌, List, [], ◌∷◌, ◌++◌, map, codes, decimal, bytes_eq, Option, Some, None, IsTrue, ⊤, if◌then◌else◌}
 use Rattle.std.specs.Int.{IsInRange}
 use Rattle.std.specs.Option.{option_map_or}
 use Rattle.std.specs.List.{slice_split}
 use Rattle.std.specs.Str.Lines.{strip_carriage_return}
-use Rattle.nrm_text.specs.Names.{name_in}
+use Rattle.nrm_text.specs.Names.{is_name, name_in}
 use Rattle.nrm_text.specs.Numbers.{whole_between}
+use Rattle.nrm_text.specs.Words.{spaced}
 use Rattle.nrm_model.specs.declared.limits.TheConstants.{LAST_BOOKING, MOST_PARTY}
 use Rattle.nrm_stream.specs.Lines.{lines_of, whole_lines}
 use Rattle.nrm_stream.specs.declared.parse.TheConstants.{LAST_PERIOD}
@@ -57,6 +58,30 @@ IsCommand (command.Leg name) = ⊤
 IsCommand command.Hindsight = ⊤
 IsCommand command.Plan = ⊤
 IsCommand command.Bad = ⊤
+
+-- the words of a command: a line that is read as it
+abbrev pub command_text : Command → List ℕ
+command_text (command.Book product party) = codes "book" ++ spaced product ++ spaced (decimal party)
+command_text (command.Cancel number) = codes "cancel" ++ spaced (decimal number)
+command_text (command.Reoptimise period) = codes "reoptimise" ++ spaced (decimal period)
+command_text (command.Leg name) = codes "leg" ++ spaced name
+command_text command.Hindsight = codes "hindsight"
+command_text command.Plan = codes "plan"
+command_text command.Bad = codes "bad"
+
+-- a name in it is one that is read as a name
+abbrev pub HasNames : Command → Type 0
+HasNames (command.Book product party) = IsTrue (is_name product)
+HasNames (command.Cancel number) = ⊤
+HasNames (command.Reoptimise period) = ⊤
+HasNames (command.Leg name) = IsTrue (is_name name)
+HasNames command.Hindsight = ⊤
+HasNames command.Plan = ⊤
+HasNames command.Bad = ⊤
+
+-- the words of a command are read as it
+abbrev pub WrittenCommandsAreRead : Type 0
+WrittenCommandsAreRead = (c : Command) → IsCommand c → HasNames c → command_of (command_text c) ≡ c
 
 -- the commands of the whole lines of the bytes
 abbrev pub whole_commands : List ℕ → List Command

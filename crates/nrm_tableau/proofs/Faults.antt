@@ -27,11 +27,6 @@ module _ (limit : ℕ) where
   fault_back (Large n) xs ys small h = large-append xs ys ∙ ap (λ found. first_of_two found (first_large limit ys)) small ∙ h
   fault_back NoMemory xs ys small h = tt
 
-  -- running out of memory is a fault whatever the rows are
-  pub fault_any : (f : RowFault) (found : Option ℤ) → IsFault f None → IsFault f found
-  fault_any (Large n) found h = absurd (none-some n h)
-  fault_any NoMemory found h = tt
-
   pub fault_row : (f : RowFault) (x : List Fraction) (ys : List (List Fraction)) → IsFault f (large_number limit x) → IsFault f (first_large limit (x ∷ ys))
   fault_row (Large n) x ys h = ap (λ found. first_of_two found (first_large limit ys)) h
   fault_row NoMemory x ys h = tt

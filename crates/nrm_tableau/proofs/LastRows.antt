@@ -48,9 +48,6 @@ module _ (end j : ℕ) (bs : List ℕ) (rows : List (List Fraction)) (k : ℕ) w
   value_more : k < length bs → k < length rows → basic_value end j (drop k bs) (drop k rows) ≡ cond (eqb (get_or bs k 0) j) (at (get_or rows k []) end) (basic_value end j (drop (k + 1) bs) (drop (k + 1) rows))
   value_more l m = at_drop_more (λ cs. basic_value end j cs (drop k rows)) bs k 0 l ∙ at_drop_more (λ ys. basic_value end j (get_or bs k 0 ∷ drop (k + 1) bs) ys) rows k [] m
 
-  pub value_here : k < length bs → k < length rows → get_or bs k 0 ≡ j → basic_value end j (drop k bs) (drop k rows) ≡ basic_value end j bs rows → at (get_or rows k []) end ≡ basic_value end j bs rows
-  value_here l m e h = sym (value_more l m ∙ ap (λ b. cond b (at (get_or rows k []) end) (basic_value end j (drop (k + 1) bs) (drop (k + 1) rows))) (eq-eqb (get_or bs k 0) j e)) ∙ h
-
   pub value_later : k < length bs → k < length rows → get_or bs k 0 ≢ j → basic_value end j (drop k bs) (drop k rows) ≡ basic_value end j bs rows → basic_value end j (drop (k + 1) bs) (drop (k + 1) rows) ≡ basic_value end j bs rows
   value_later l m d h = sym (value_more l m ∙ ap (λ b. cond b (at (get_or rows k []) end) (basic_value end j (drop (k + 1) bs) (drop (k + 1) rows))) (ne_eqb (get_or bs k 0) j d)) ∙ h
 

@@ -41,21 +41,6 @@ pub record IsJoinedTo (old other now : List ℕ) (i : ℕ) : Type 0 where
   pub joined : (k : ℕ) → k < i → get_or now k 0 ≡ bit_or (get_or old k 0) (get_or other k 0)
   pub rest : (k : ℕ) → i ≤ k → get_or now k 0 ≡ get_or old k 0
 
-pub joined_more : (old other now : List ℕ) (i : ℕ) → i < 5 → IsJoinedTo old other now i → IsJoinedTo old other (set now i (bit_or (get_or now i 0) (get_or other i 0))) (i + 1)
-joined_more old other now i h p = record {
-  long = length-set now i (bit_or (get_or now i 0) (get_or other i 0)) ∙ p.long;
-  joined = λ k l. by_place k l (same_or_not k i);
-  rest = λ k l. get_or-set_other now i k (bit_or (get_or now i 0) (get_or other i 0)) 0 (λ e. omega arith) ∙ p.rest k (omega arith);
-}
-  where
-    by_place : (k : ℕ) → k < i + 1 → (k ≡ i) ⊎ ¬ (k ≡ i) → get_or (set now i (bit_or (get_or now i 0) (get_or other i 0))) k 0 ≡ bit_or (get_or old k 0) (get_or other k 0)
-    by_place k l (inl s) =
-        ap (λ j. get_or (set now i (bit_or (get_or now i 0) (get_or other i 0))) j 0) s
-        ∙ get_or-set_same now i (bit_or (get_or now i 0) (get_or other i 0)) 0 (omega (arith, p.long))
-        ∙ ap (λ x. bit_or x (get_or other i 0)) (p.rest i (omega arith))
-        ∙ ap (λ j. bit_or (get_or old j 0) (get_or other j 0)) (sym s)
-    by_place k l (inr d) = get_or-set_other now i k (bit_or (get_or now i 0) (get_or other i 0)) 0 d ∙ p.joined k (omega arith)
-
 neither : (a b : ℕ) → max a b ≡ 0 → (a ≡ 0) × (b ≡ 0)
 neither a b e = (omega arith, omega arith)
 

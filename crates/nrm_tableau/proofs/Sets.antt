@@ -85,9 +85,6 @@ module _ (a : ProgramValue) where
     pub long : length sets ≡ n
     pub noughts : (c : ℕ) → c < n → IsNoughtBut (get_or sets c []) (row_count a) (λ r. first_entry a r c)
 
-  pub covers_first : CoversTo [] 0
-  covers_first = record { long = refl; noughts = λ c l. absurd (omega arith) }
-
   pub covers_more : (sets new : List (List ℕ)) (words : List ℕ) (n : ℕ) → CoversTo sets n → IsNoughtBut words (row_count a) (λ r. first_entry a r n) → new ≡ sets ++ words ∷ [] → CoversTo new (n + 1)
   covers_more sets new words n h last put = record {
     long = ap length put ∙ length-append sets (words ∷ []) ∙ ap (λ k. k + 1) h.long;
