@@ -1,5 +1,5 @@
 -- The bookings that stand, and the seats that they take and leave.
-use Rattle.std.specs.Prelude.{ℕ, ◌<◌, ◌-◌, ◌*◌, ◌==◌, not, List, filter, find, sum_by, AllPairs, Option, if◌then◌else◌}
+use Rattle.std.specs.Prelude.{ℕ, ◌<◌, ◌-◌, ◌*◌, ◌==◌, not, List, filter, find, map, sum_by, AllPairs, Option, if◌then◌else◌}
 use Rattle.nrm_model.specs.Inventory.{Inventory, authorised_of, fare_of, products_on}
 use Rattle.nrm_book.specs.declared.booking.Booking.{Booking}
 
@@ -10,6 +10,10 @@ sold_of bookings product = sum_by (λ booking. if booking.product == product the
 -- the seats sold on a leg: those of the products that use it
 abbrev pub sold_on : Inventory → List Booking → ℕ → ℕ
 sold_on inventory bookings leg = sum_by (sold_of bookings) (products_on inventory leg)
+
+-- the products that use a leg, in the order of the network, each with the seats sold of it
+abbrev pub sold_on_each : Inventory → List Booking → ℕ → List (ℕ × ℕ)
+sold_on_each inventory bookings leg = map (λ product. (product, sold_of bookings product)) (products_on inventory leg)
 
 -- the seats left on a leg: its authorised seats that are not sold
 abbrev pub left_on : Inventory → List Booking → ℕ → ℕ

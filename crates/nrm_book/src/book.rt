@@ -7,9 +7,10 @@ ghost use Rattle.std.specs.Prelude.{slice_get, slice_index, unwrap_or};
 ghost use Rattle.std.specs.Int.{IsInRange};
 ghost use Rattle.nrm_model.specs.Inventory.{inventory_of, legs_of, authorised_of};
 ghost use Rattle.nrm_model.specs.declared.limits.TheConstants.{BOOKING_LIMIT, MOST_LEGS, MOST_PARTY};
-ghost use Rattle.nrm_book.specs.Bookings.{booking_numbered, left_on, revenue_of, sold_of, sold_on, without};
+ghost use Rattle.nrm_book.specs.Bookings.{booking_numbered, left_on, revenue_of, sold_of, sold_on, sold_on_each, without};
 
 use crate::Booking;
+use crate::on_leg::SoldOnLeg;
 use crate::seats::SeatsSold;
 use crate::standing::{Bookings, Standing};
 use nrm_model::Network;
@@ -90,6 +91,15 @@ impl Book {
         ensures { result ≡ sold_of self.now.bookings product }
     {
         self.sold.of(product)
+    }
+
+    /// The products that use a leg, in the order of the network, each with the seats sold of it on its legs. It lends what is
+    /// counted, and takes no memory.
+    pub fn on_leg(&self, leg: u8) -> SoldOnLeg<'_>
+        requires { leg < length self.now.inventory.authorised }
+        ensures { result ≡ sold_on_each self.now.inventory self.now.bookings leg }
+    {
+        SoldOnLeg::new(&self.legs, self.sold.by_product(), leg)
     }
 
     /// The bookings that stand, by rising number.

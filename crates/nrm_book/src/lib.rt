@@ -6,15 +6,17 @@
 //! - `left`, the seats left on a leg, and `next`, the number that the next booking gets;
 //! - `add`, a `Booking` more, and `remove`, one less;
 //! - `find`, a booking by its number, and `bookings`, an iterator over all of them;
-//! - `sold`, the seats sold of a product, and `revenue`, what they are worth.
+//! - `sold`, the seats sold of a product, and `on_leg`, those of each product of a leg; `revenue`, what they are worth.
 #![tactic(auto)]
 
 mod book;
 mod booking;
+mod on_leg;
 mod seats;
 mod slot;
 mod standing;
 
 pub use book::Book;
 pub use booking::Booking;
+pub use on_leg::SoldOnLeg;
 pub use standing::Bookings;

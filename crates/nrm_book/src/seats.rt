@@ -52,6 +52,13 @@ impl SeatsSold {
         self.by_product[product as usize]
     }
 
+    /// The seats sold of each product.
+    pub(crate) fn by_product(&self) -> &[u16]
+        ensures { result.now ≡ self.now.by_product }
+    {
+        &self.by_product
+    }
+
     /// Sells a party of a product, which takes seats of these legs. It takes no memory.
     pub(crate) fn sell(&mut self, legs: &[u8], product: u16, party: u16)
         requires distinct { AllPairs (λ a b. a ≢ b) legs.now }

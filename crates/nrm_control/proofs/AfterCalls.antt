@@ -47,17 +47,6 @@ fits-of net book is sound i few =
     subst (λ (v : Inventory). sold_on v book.bookings i ≤ authorised_of v i) is (sound.seats i (omega (arith, few, count)))
 
 module _ (net : NetworkValue) (plan : PlanValue) (book : BookValue) (tallies : List ℕ) (withheld : ℕ) (is : IsInForce net plan book tallies withheld) where
-  -- after a refusal
-  pub kept-refused : (j party : ℕ) → j < length net.products → IsInForce net plan book (with_request net tallies j party) withheld
-  kept-refused j party short = record {
-    network = is.network;
-    planned = is.planned;
-    inventory = is.inventory;
-    sound = is.sound;
-    tallied = beside-refusal net book.bookings tallies j party short is.tallied;
-    withheld = is.withheld;
-  }
-
   -- with a booking more
   pub kept-loaded : (new : BookValue) (b : Booking) → b.product < length net.products → book.next ≤ b.number → new ≡ with_loaded book b → IsBook new
       → IsInForce net plan new (with_request net tallies b.product b.party) withheld

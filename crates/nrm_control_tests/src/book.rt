@@ -113,6 +113,19 @@ fn counts_the_products_by_hand(rt: HostRuntime) -> Result<(), Fail> {
     Ok(())
 }
 
+#[test]
+fn counts_the_products_of_a_leg_by_hand(rt: HostRuntime) -> Result<(), Fail> {
+    let mut book = empty_book_of_five(rt.alloc())?;
+    assert_eq!(rt; book.add(1, 3), 1);
+    let mut products = book.on_leg(0);
+    assert_eq!(rt; products.next(), Some((0, 0)));
+    assert_eq!(rt; products.next(), Some((1, 3)));
+    assert_eq!(rt; products.next(), Some((2, 0)));
+    assert_eq!(rt; products.next(), Some((4, 0)));
+    assert_eq!(rt; products.next(), None);
+    Ok(())
+}
+
 // The bookings have these numbers, in this order.
 fn assert_numbers(rt: &impl Abort, mut bookings: Bookings<'_>, numbers: &[u64]) {
     for number in numbers {

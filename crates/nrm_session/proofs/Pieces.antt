@@ -206,22 +206,3 @@ module _ {B : Type 0} (whole_is cut_is : (ControlValue × B) → (ControlValue �
         answers-unsent whole_is cut_is ready are old now so_far.so_far.commands held held' held'' faults faults' faults''
             so_far.so_far.answers stays rose later,
       )
-
-  -- and all of them were answered
-  pub piece-answered : (old now : ControlValue × B) (kept kept' : Option (List ℕ)) (piece rest : List ℕ)
-      (held held' held'' : Option (List ℕ)) (faults faults' faults'' : ℕ)
-      → FrontAnswered whole_is ready old now kept kept' piece rest held held' faults faults' → true ≡ (length rest == 0)
-      → Keeps held' held'' → faults'' ≡ faults' → AnswersPiece whole_is ready old now kept kept' piece held held'' faults faults''
-  piece-answered old now kept kept' piece rest held held' held'' faults faults' faults'' so_far none stays same =
-      let all : so_far.front ≡ piece = sym (append-nil so_far.front) ∙ ap (λ (b : List ℕ). so_far.front ++ b) (sym (none-left rest none))
-      ∙ sym so_far.whole in
-      let sent = answers-sent whole_is cut_is ready are old now so_far.so_far.commands held held' held'' faults faults' faults''
-      so_far.so_far.answers stays same in
-      subst (λ (p : List ℕ). AnswersPiece whole_is ready old now kept kept' p held held'' faults faults'') all
-      (record {
-        commands = so_far.so_far.commands;
-        brings = so_far.so_far.brings;
-        leaves = so_far.so_far.leaves;
-        few = so_far.so_far.few;
-        answers = sent;
-      })
