@@ -153,10 +153,10 @@ module _ (old new : ControlValue × Teller) (c : Command) (reply : Reply) (ran_o
 -- what was made in a state that a controller represents is the account in that state
 pub told-account : (control : ControlValue) (asked planned : ℕ) (c : Command) (reply : Reply) (front : List ℕ) (s : SeatState) → Represents control s
     → front ≡ asked_line asked c ++ reasons control.net planned control.plan control.bookings control.next c
-    → front ++ answer_text c reply ≡ account_text control.net asked planned s c reply
+    → front ++ answer_text reply ≡ account_text control.net asked planned s c reply
 told-account control asked planned c reply front s stands is =
-    ap (λ (f : List ℕ). f ++ answer_text c reply) is
-    ∙ (λ n. (asked_line asked c ++ reasons control.net planned (sym stands.plan n) (sym stands.bookings n) (sym stands.next n) c) ++ answer_text c reply)
+    ap (λ (f : List ℕ). f ++ answer_text reply) is
+    ∙ (λ n. (asked_line asked c ++ reasons control.net planned (sym stands.plan n) (sym stands.bookings n) (sym stands.next n) c) ++ answer_text reply)
 
 -- what is written of the line that is asked for, and of another
 pub asked-now : (left : ℕ) {text account : List ℕ} → left ≡ 1 → text ≡ account → text ≡ (if left == 1 then account else [])

@@ -17,9 +17,10 @@ use Rattle.nrm_lp.specs.declared.certificate.Certificate.{Certificate}
 use Rattle.nrm_plan.specs.Plans.{PlanValue}
 use Rattle.nrm_control.specs.Refunds.{refund_of, withheld_of}
 use Rattle.nrm_control.specs.State.{SeatState}
+use Rattle.nrm_stream.specs.Commands.{command_text}
 use Rattle.nrm_stream.specs.declared.command.Command.{Command}
 use Rattle.nrm_stream.specs.declared.command.Command.TheVariants as command
-use Rattle.nrm_session.specs.Replies.{Reply, text_of}
+use Rattle.nrm_session.specs.Replies.{Reply, leg_told, plan_told, text_of}
 use Rattle.nrm_account.specs.Account.{LegAccount, RequestAccount, is_below, is_short, leg_account, prices_in_all, request_account, seats_short}
 use Rattle.nrm_account.specs.Largest.{beyond, largest_party}
 use Rattle.nrm_account.specs.Lines.{counted, ended}
@@ -27,19 +28,9 @@ use Rattle.nrm_account.specs.Nests.{nest_text}
 
 -- ---- what was asked
 
--- the words of a command
-abbrev pub command_words : Command → List ℕ
-command_words (command.Book product party) = spaced (codes "book") ++ spaced product ++ spaced (decimal party)
-command_words (command.Cancel number) = counted (codes "cancel") number
-command_words (command.Reoptimise period) = counted (codes "reoptimise") period
-command_words (command.Leg name) = spaced (codes "leg") ++ spaced name
-command_words command.Hindsight = spaced (codes "hindsight")
-command_words command.Plan = spaced (codes "plan")
-command_words command.Bad = spaced (codes "bad")
-
 -- the line of a number, and what it asked for
 abbrev pub asked_line : ℕ → Command → List ℕ
-asked_line line c = ended (codes "line" ++ spaced (decimal line) ++ command_words c)
+asked_line line c = ended (codes "line" ++ spaced (decimal line) ++ spaced (command_text c))
 
 -- ---- the plan in force
 
@@ -157,20 +148,16 @@ reasons net planned plan bookings number command.Hindsight = []
 reasons net planned plan bookings number command.Plan = []
 reasons net planned plan bookings number command.Bad = []
 
--- the reply, but for the texts of a leg and of a plan
-abbrev pub is_accounted : Command → Bool
-is_accounted (command.Book name party) = true
-is_accounted (command.Cancel number) = true
-is_accounted (command.Reoptimise period) = true
-is_accounted (command.Leg name) = false
-is_accounted command.Hindsight = true
-is_accounted command.Plan = false
-is_accounted command.Bad = true
+-- a reply is told, but for the texts of a leg and of a plan
+abbrev pub is_accounted : Reply → Bool
+is_accounted (leg_told text) = false
+is_accounted (plan_told text) = false
+is_accounted _ = true
 
-abbrev pub answer_text : Command → Reply → List ℕ
-answer_text c reply = if is_accounted c then codes "answer " ++ text_of reply else []
+abbrev pub answer_text : Reply → List ℕ
+answer_text reply = if is_accounted reply then codes "answer " ++ text_of reply else []
 
 -- the line that was asked, the reasons in the state before it, and the reply
 abbrev pub account_text : NetworkValue → ℕ → ℕ → SeatState → Command → Reply → List ℕ
 account_text net line planned s c reply =
-    asked_line line c ++ reasons net planned s.plan s.bookings s.next c ++ answer_text c reply
+    asked_line line c ++ reasons net planned s.plan s.bookings s.next c ++ answer_text reply

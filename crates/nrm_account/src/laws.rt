@@ -1,9 +1,21 @@
 //! Laws of accounts. Each is the contract of a function that does nothing.
-ghost use Rattle.nrm_account.specs.Laws.{AccountsAreOfTheirLines, AccountsGiveReplies, LargestPartiesAreSold, OutOfMemoryWritesNothing};
+ghost use Rattle.nrm_account.specs.Laws.{AccountsAnswer, AccountsAreDetermined, AccountsAreOfTheirLines, AccountsGiveReplies};
+ghost use Rattle.nrm_account.specs.Laws.{LargestPartiesAreSold, OutOfMemoryWritesNothing};
 
 /// The numbers of the account of a request give its reply by the rule alone.
 pub fn accounts_give_replies()
     ensures { AccountsGiveReplies }
+{}
+
+/// The account of a request has the reply that the rule gives over its numbers; that of a cancellation has the reply that its party, its
+/// fare and its percentage give.
+pub fn accounts_answer()
+    ensures { AccountsAnswer }
+{}
+
+/// The commands of a session determine the account of a line, if no line up to it runs out of memory.
+pub fn accounts_are_determined()
+    ensures { AccountsAreDetermined }
 {}
 
 /// A request is sold exactly if its party is no larger than the largest.

@@ -4,7 +4,7 @@ ghost use Rattle.nrm_fraction.specs.Fraction.{◌over◌};
 ghost use Rattle.nrm_text.specs.Fractions.{fraction_text};
 ghost use Rattle.nrm_text.specs.Words.{spaced};
 ghost use Rattle.nrm_account.specs.Lines.{counted, ended};
-ghost use Rattle.nrm_account.specs.Texts.{asked_line, command_words, leg_line, mode_word, since_text};
+ghost use Rattle.nrm_account.specs.Texts.{asked_line, leg_line, mode_word, since_text};
 
 use nrm_model::Mode;
 use nrm_stream::Command;
@@ -46,37 +46,14 @@ pub(crate) fn push_pair(line: &mut Text<ROOM>, first: &[u8], a: u64, second: &[u
     push_counted(line, second, b);
 }
 
-// Appends the words of a command.
-fn push_command(line: &mut Text<ROOM>, command: &Command)
-    requires { length line.old ≤ 100 }
-    ensures text { line.new ≡ line.old ++ command_words command.now }
-    ensures length { length line.new ≤ length line.old + 60 }
-{
-    match command {
-        Command::Book { product, party } => {
-            line.push_bytes(b" book ");
-            line.push_name(product);
-            line.push_spaced(u64::from(*party));
-        }
-        Command::Cancel { number } => line.push_count(b"cancel", *number),
-        Command::Reoptimise { period } => line.push_count(b"reoptimise", u64::from(*period)),
-        Command::Leg { name } => {
-            line.push_bytes(b" leg ");
-            line.push_name(name);
-        }
-        Command::Hindsight => line.push_bytes(b" hindsight"),
-        Command::Plan => line.push_bytes(b" plan"),
-        Command::Bad => line.push_bytes(b" bad"),
-    }
-}
-
 /// The line of a number, and what it asked for.
 pub(crate) fn asked(number: u64, command: &Command) -> Text<ROOM>
     ensures { result ≡ asked_line number command.now }
 {
     let mut line = Text::of_bytes(b"line");
     line.push_spaced(number);
-    push_command(&mut line, command);
+    line.push_bytes(b" ");
+    command.push_to(&mut line);
     line.push_bytes(b"\n");
     line
 }

@@ -1,7 +1,7 @@
 //! What a line is accounted for by, kind by kind.
 ghost use Rattle.std.specs.Prelude.{◌≡◌, ◌<◌, ◌++◌, length, IfOk, OnOk};
 ghost use Rattle.nrm_model.specs.Inventory.{inventory_of};
-ghost use Rattle.nrm_account.specs.Texts.{asked_line, cancellation_text, is_accounted, left_line, left_text, reasons};
+ghost use Rattle.nrm_account.specs.Texts.{asked_line, cancellation_text, left_line, left_text, reasons};
 
 use crate::line::{ROOM, asked, back, booking, left};
 use crate::request::push_request;
@@ -77,13 +77,6 @@ fn push_reasons(
         }
         Command::Leg { .. } | Command::Hindsight | Command::Plan | Command::Bad => Ok(()),
     }
-}
-
-/// Whether a line's reply is told in its account: those of `leg` and `plan` are texts of their own.
-pub(crate) fn is_accounted(command: &Command) -> bool
-    ensures { result ≡ is_accounted command.now }
-{
-    !matches!(command, Command::Leg { .. } | Command::Plan)
 }
 
 /// The account of a line up to its reply: the line that was asked, and its reasons in the state before it.

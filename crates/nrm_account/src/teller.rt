@@ -9,9 +9,9 @@ ghost use Rattle.nrm_stream.specs.Commands.{IsCommand};
 ghost use Rattle.nrm_session.specs.Answering.{IsTellable, reply_in};
 ghost use Rattle.nrm_account.specs.Tellers.{Passes, can_tell, passed};
 ghost use Rattle.nrm_account.specs.Readings.{planned_by};
-ghost use Rattle.nrm_account.specs.Texts.{answer_text};
+ghost use Rattle.nrm_account.specs.Texts.{answer_text, is_accounted};
 
-use crate::reasons::{is_accounted, reasons_of};
+use crate::reasons::reasons_of;
 use nrm_control::Controller;
 use nrm_edge::{Failed, Sink, put_all};
 use nrm_session::{Clerk, Reply, carry_out, put_reply};
@@ -65,23 +65,29 @@ fn planned_by(reply: Reply, line: u64, planned: u64) -> u64
     }
 }
 
+// Whether a reply is told in an account: how a leg stands and what a plan is are texts of their own.
+fn is_accounted(reply: Reply) -> bool
+    ensures { (control : ControlValue) → result ≡ is_accounted (reply_in control reply) }
+{
+    !matches!(reply, Reply::Leg(_) | Reply::Plan)
+}
+
 // Puts an account: what was made of it before the reply, and then the reply.
 fn put_account<K: Sink>(
     controller: &Controller,
     front: &[u8],
-    command: &Command,
     reply: Reply,
     sink: &mut K,
 ) -> Result<(), Failed>
     requires { IsTellable controller.now.net reply }
     ensures whole { OnOk result (Appends (K.held sink.old) (K.held sink.new)
-        (front.now ++ answer_text command.now (reply_in controller.now reply))) }
+        (front.now ++ answer_text (reply_in controller.now reply))) }
     ensures cut { OnErr result (AppendsFront (K.held sink.old) (K.held sink.new)
-        (front.now ++ answer_text command.now (reply_in controller.now reply))) }
+        (front.now ++ answer_text (reply_in controller.now reply))) }
     ensures cause { HasCause (K.faults sink.old) (K.faults sink.new) result }
 {
     put_all(sink, front)?;
-    if !is_accounted(command) {
+    if !is_accounted(reply) {
         return Ok(());
     }
     put_all(sink, b"answer ")?;
@@ -133,7 +139,7 @@ impl Clerk<Teller> for Telling {
         match reasons_of(alloc, controller, beside.asked, beside.planned, command) {
             Ok(front) => {
                 let reply = pass_line(alloc, controller, beside, command, beside.ran_out);
-                put_account(controller, &front, command, reply, sink)
+                put_account(controller, &front, reply, sink)
             }
             Err(_) => {
                 pass_line(alloc, controller, beside, command, true);

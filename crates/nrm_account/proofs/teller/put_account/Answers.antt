@@ -10,7 +10,7 @@ pub returns-in_err-put_all-2-clause-cut : goal.returns-in_err-put_all-2-clause-c
 returns-in_err-put_all-2-clause-cut g c =
     let held = g.K.Sink.held in
     let told : List ℕ = text_of (reply_in c.args.controller.now c.args.reply) in
-    let is : is_accounted c.args.command.now ≡ true = sym c.is_accounted.ensures ∙ c.if-not-is_accounted.false in
+    let is : is_accounted (reply_in c.args.controller.now c.args.reply) ≡ true = sym (c.is_accounted.ensures c.args.controller.now) ∙ c.if-not-is_accounted.false in
     rw is
     (OnErr-holds c.from_residual-in_err-put_all-2.result
     (AppendsFront-after (held c.args.sink.now) (held c.put_all.new.sink) (held c.put_all-2.new.sink) c.args.front.now (codes "answer " ++ told) c.in_ok-put_all.ensures.whole
@@ -20,7 +20,7 @@ pub returns-clause-cut : goal.returns-clause-cut
 returns-clause-cut g c =
     let held = g.K.Sink.held in
     let told : List ℕ = text_of (reply_in c.args.controller.now c.args.reply) in
-    let is : is_accounted c.args.command.now ≡ true = sym c.is_accounted.ensures ∙ c.if-not-is_accounted.false in
+    let is : is_accounted (reply_in c.args.controller.now c.args.reply) ≡ true = sym (c.is_accounted.ensures c.args.controller.now) ∙ c.if-not-is_accounted.false in
     rw is
     (on_err_weaker c.put_reply.result
     (λ front.

@@ -21,7 +21,7 @@ returns-in-Ok-clause-whole g c =
     let reply : Reply = reply_in new c.pass_line-reply.result in
     let front = c.deref.ensures.value ∙ c.in-Ok.ensures in
     put-whole (control, teller) (new, c.pass_line-reply.new.teller) c.args.command.now reply teller.ran_out c.pass_line-reply.ensures.passes
-    c.put_account.result (c.deref.result.now ++ answer_text c.args.command.now reply) (g.K.Sink.held c.args.sink.now) (g.K.Sink.held c.put_account.new.sink)
+    c.put_account.result (c.deref.result.now ++ answer_text reply) (g.K.Sink.held c.args.sink.now) (g.K.Sink.held c.put_account.new.sink)
     (g.K.Sink.faults c.args.sink.now) (g.K.Sink.faults c.put_account.new.sink) c.requires.ready
     (λ s stands. inl (asked-now teller.left c.if-beside-ne1.false (told-account control teller.asked teller.planned c.args.command.now reply c.deref.result.now s stands front), refl))
     c.put_account.ensures.whole c.put_account.ensures.cause
@@ -34,7 +34,7 @@ returns-in-Ok-clause-cut g c =
     let reply : Reply = reply_in new c.pass_line-reply.result in
     let front = c.deref.ensures.value ∙ c.in-Ok.ensures in
     put-cut (control, teller) (new, c.pass_line-reply.new.teller) c.args.command.now reply teller.ran_out c.pass_line-reply.ensures.passes
-    c.put_account.result (c.deref.result.now ++ answer_text c.args.command.now reply) (g.K.Sink.held c.args.sink.now) (g.K.Sink.held c.put_account.new.sink)
+    c.put_account.result (c.deref.result.now ++ answer_text reply) (g.K.Sink.held c.args.sink.now) (g.K.Sink.held c.put_account.new.sink)
     (g.K.Sink.faults c.args.sink.now) (g.K.Sink.faults c.put_account.new.sink) c.requires.ready
     (λ s stands. inl (asked-now teller.left c.if-beside-ne1.false (told-account control teller.asked teller.planned c.args.command.now reply c.deref.result.now s stands front), refl))
     c.put_account.ensures.cut c.put_account.ensures.cause
