@@ -1,11 +1,13 @@
 -- Rows, faults and answers, and what a file shows, by hand.
-use Rattle.std.proofs.Common.{◌≡◌, [], ◌∷◌, true, false, pos, negsuc, refl, ap}
+use Rattle.std.proofs.Common.{◌≡◌, ◌<◌, [], ◌∷◌, true, false, pos, negsuc, refl, ap, inl, inr, arith}
+use Rattle.std.proofs.lemmas.List.Elements.{All-cons}
 use Rattle.std.specs.Prelude.{ℕ, ◌^◌, ◌-◌, Bool, List, Option, Some, None, IsSome, IsTrue, Ok, Err, codes}
 use Rattle.sqlite_trees.specs.declared.store.Store.{Ghosts}
 use Rattle.sqlite_value.specs.declared.value.Value.TheVariants.{Null, Int, Text, Blob}
 use Rattle.sqlite.specs.declared.error.Error.TheVariants.{SqliteFailure, QueryReturnedNoRows}
 use Rattle.sqlite.specs.declared.error.ErrorCode.TheVariants as code
 use Rattle.sqlite.specs.Held.{Held, state}
+use Rattle.nrm_keeper.specs.declared.row.Doubt.{Doubt}
 use Rattle.nrm_keeper.specs.declared.row.KeptRow.{KeptRow}
 use Rattle.nrm_keeper.specs.declared.row.KeepFault.TheVariants.{Failed, NoMemory}
 use Rattle.nrm_keeper.specs.Inner.Faults.{fault_of, added_by, dropped_by}
@@ -15,7 +17,9 @@ use Rattle.nrm_keeper.specs.File.{Seen, FileRows, seen, file_view, IsTrusted, sh
 use Rattle.nrm_keeper.specs.Steady.{IsSteady}
 use Rattle.nrm_keeper.specs.Stored.{kept_of, kept_row, kept_rows, told as told_by_store}
 use Rattle.nrm_keeper.specs.Inner.Table.{stored}
+use Rattle.nrm_keeper.specs.Undoing.{IsInDoubt, IsOfRows, Undoes}
 use Rattle.nrm_keeper.proofs.FileLemmas.{steadied, unsteadied}
+use Rattle.nrm_keeper.proofs.StoredLemmas.{same_some}
 
 -- ---- rows
 
@@ -160,16 +164,16 @@ counts_stay_at_the_last = refl
 
 -- a file that was not opened yet, one that is open and tells these rows, clean and open or not, and one that was let go
 abbrev unopened : FileRows
-unopened = record { file = None; is_lost = false; faults = 0 }
+unopened = record { file = None; is_lost = false; is_open = false; doubt = None; faults = 0 }
 
 abbrev telling : Bool → Option (List KeptRow) → Seen
 telling steady rows = record { is_steady = steady; rows = rows }
 
 abbrev opened : Bool → List KeptRow → FileRows
-opened steady rows = record { file = Some (telling steady (Some rows)); is_lost = false; faults = 0 }
+opened steady rows = record { file = Some (telling steady (Some rows)); is_lost = false; is_open = true; doubt = None; faults = 0 }
 
 abbrev let_go : FileRows
-let_go = record { file = None; is_lost = true; faults = 1 }
+let_go = record { file = None; is_lost = true; is_open = false; doubt = None; faults = 1 }
 
 unopened_is_trusted : IsTrusted unopened
 unopened_is_trusted = record { found = refl; steady = tt }
@@ -235,11 +239,49 @@ seen_if_steady S g h steady = ap (λ (is : Bool). telling is (told_by_store (sta
 steady_if_seen : (S : Type 0) (g : Ghosts S) (h : Held S) → IsTrue (seen g h).is_steady → IsSteady (state g h)
 steady_if_seen S g h is = steadied (Some []) g h is
 
-seen_in_view : (S : Type 0) (g : Ghosts S) (h : Held S) → file_view g (Some h) false 3 ≡ record { file = Some (seen g h); is_lost = false; faults = 3 }
+seen_in_view : (S : Type 0) (g : Ghosts S) (h : Held S) → file_view g (Some h) false None 3
+    ≡ record { file = Some (seen g h); is_lost = false; is_open = true; doubt = None; faults = 3 }
 seen_in_view S g h = refl
 
-none_in_view : (S : Type 0) (g : Ghosts S) → file_view g None false 3 ≡ record { file = None; is_lost = false; faults = 3 }
+none_in_view : (S : Type 0) (g : Ghosts S) → file_view g None false None 3 ≡ record { file = None; is_lost = false; is_open = false; doubt = None; faults = 3 }
 none_in_view S g = refl
 
-let_go_in_view : (S : Type 0) (g : Ghosts S) (h : Held S) → file_view g (Some h) true 3 ≡ record { file = None; is_lost = true; faults = 3 }
+let_go_in_view : (S : Type 0) (g : Ghosts S) (h : Held S) → file_view g (Some h) true None 3 ≡ record { file = None; is_lost = true; is_open = true; doubt = None; faults = 3 }
 let_go_in_view S g h = refl
+
+-- ---- what becomes of a change that is in doubt
+
+abbrev drop_of : ℕ → Doubt
+drop_of number = record { row = row number; was_kept = true }
+
+abbrev add_of : ℕ → Doubt
+add_of number = record { row = row number; was_kept = false }
+
+-- a row that was to be dropped is added again, unless it is there
+put_back : (after : Option (List KeptRow)) → Undoes (Some (drop_of 2)) (Some (row 1 ∷ [])) after → after ≡ Some (row 1 ∷ row 2 ∷ [])
+put_back after undone = undone (All-cons (λ (kept : KeptRow). kept.number < 2) (row 1) [] (omega arith) (λ k d short. absurd (omega (arith, short))))
+
+still_there : (after : Option (List KeptRow)) → Undoes (Some (drop_of 2)) (Some (row 1 ∷ row 2 ∷ [])) after → after ≡ Some (row 1 ∷ row 2 ∷ [])
+still_there after undone = undone
+
+-- a row that was to be added is dropped if it is there just so
+taken_out : (after : Option (List KeptRow)) → Undoes (Some (add_of 2)) (Some (row 1 ∷ row 2 ∷ [])) after → after ≡ Some (row 1 ∷ [])
+taken_out after undone = undone.0 refl refl
+
+another_stays : (after : Option (List KeptRow)) → Undoes (Some (add_of 2)) (Some (record (row 2) { party = 1 } ∷ [])) after → after ≡ Some (record (row 2) { party = 1 } ∷ [])
+another_stays after undone = undone.1 (λ same. let party : 1 ≡ 2 = ap (λ (r : KeptRow). r.party) same in absurd (omega (arith, party)))
+
+not_there : (after : Option (List KeptRow)) → Undoes (Some (add_of 2)) (Some (row 1 ∷ [])) after → after ≡ Some (row 1 ∷ [])
+not_there after undone = undone
+
+none_in_doubt : (after : Option (List KeptRow)) → Undoes None (Some (row 1 ∷ [])) after → after ≡ Some (row 1 ∷ [])
+none_in_doubt after undone = undone
+
+-- the row that was to be dropped is the one that was kept
+another_party : IsOfRows (record { row = record (row 2) { party = 1 }; was_kept = true }) (Some (row 1 ∷ row 2 ∷ [])) → ⊥
+another_party is = let party : 2 ≡ 1 = ap (λ (r : KeptRow). r.party) (same_some (is refl)) in absurd (omega (arith, party))
+
+-- a change that failed isn't forgotten where the file was let go
+forgotten : IsInDoubt (drop_of 2) let_go → ⊥
+forgotten (inl same) = let none : None ≡ Some (drop_of 2) = same in absurd (cc)
+forgotten (inr (none, live)) = let shut : false ≡ true = live in absurd (cc)

@@ -1,17 +1,21 @@
 -- What a call on a connection to a file says of the keeper's view.
-use Rattle.std.proofs.Common.{◌≡◌, ◌&&◌, ℕ, List, Bool, true, false, Option, Some, None, Ok, Err, Result, OnOk, OnErr, IfOk, IsTrue, option_map, refl, sym, ap, subst, ◌∙◌}
+use Rattle.std.proofs.Common.{◌≡◌, ◌&&◌, ℕ, List, Bool, true, false, Option, Some, None, Ok, Err, Result, OnOk, OnErr, IfOk, IsTrue, option_map, ◌==◌, [], ◌∷◌, inl, inr, refl, sym, ap, subst, ◌∙◌}
 use Rattle.std.specs.Prelude.{Vec, IsSome}
 use Rattle.std.specs.declared.alloc.Global.{Global}
+use Rattle.std.proofs.lemmas.Bool.{cases_Bool, eqb-true}
 use Rattle.sqlite_trees.specs.declared.store.Store.{Ghosts}
 use Rattle.sqlite_trees.proofs.Doubt.{clean_of, no_doubt}
 use Rattle.sqlite.specs.Held.{Held, state}
+use Rattle.nrm_keeper.specs.declared.row.Doubt.{Doubt}
 use Rattle.nrm_keeper.specs.declared.row.KeptRow.{KeptRow}
 use Rattle.nrm_keeper.specs.declared.row.KeepFault.{KeepFault}
-use Rattle.nrm_keeper.specs.Rows.{Lists}
+use Rattle.nrm_keeper.specs.Rows.{Finds, Lists, numbered}
 use Rattle.nrm_keeper.specs.Stored.{told}
 use Rattle.nrm_keeper.specs.File.{Seen, FileRows, seen, file_view, rows_in, shown_in, IsSteadyIfOpen, IsTrusted, Across, Same, Done, Failed, ListsIn}
 use Rattle.nrm_keeper.specs.Steady.{IsSteady}
 use Rattle.nrm_keeper.specs.Passes.{Passes, TellsRows}
+use Rattle.nrm_keeper.specs.Undoing.{IsOfRows, IsOfRowsIn, Undoes, UndoesFound}
+use Rattle.nrm_keeper.proofs.StoredLemmas.{same_some}
 
 both : (a b : Bool) → IsTrue (a && b) → IsTrue a × IsTrue b
 both true true h = (refl, refl)
@@ -22,6 +26,30 @@ and_back : (a b : Bool) → IsTrue a → IsTrue b → IsTrue (a && b)
 and_back true true h k = refl
 and_back true false h k = absurd (cc)
 and_back false b h k = absurd (cc)
+
+-- ---- rows of a number
+
+found_number : (number : ℕ) (rows : List KeptRow) (row : KeptRow) → numbered number rows ≡ Some row → row.number ≡ number
+found_number number [] row h = absurd (cc)
+found_number number (r ∷ rows) row h = elim (cases_Bool (r.number == number)) [
+  | inl same ↦ (let is : r ≡ row = same_some (rw same at h) in ap (λ (k : KeptRow). k.number) (sym is) ∙ eqb-true r.number number same)
+  | inr other ↦ found_number number rows row (rw other at h)
+]
+
+of_rows : (number : ℕ) (row : KeptRow) (before after : Option (List KeptRow)) → Finds number (Some row) before → after ≡ before
+    → IsOfRows (record { row = record row { number = number }; was_kept = true }) after
+of_rows number row None after finds same = subst (λ (r : Option (List KeptRow)). IsOfRows (record { row = record row { number = number }; was_kept = true }) r) (sym same) tt
+of_rows number row (Some rows) after finds same =
+    let is : row.number ≡ number = found_number number rows row (sym finds) in
+    subst (λ (r : Option (List KeptRow)). IsOfRows (record { row = record row { number = number }; was_kept = true }) r) (sym same)
+    (λ kept. sym finds ∙ (λ n. Some (record row { number = is n })))
+
+undoes_found : (change : Doubt) (found : Option KeptRow) (before mid after : Option (List KeptRow)) → mid ≡ before → Finds change.row.number found before
+    → UndoesFound change.was_kept change.row found mid after → Undoes (Some change) before after
+undoes_found change found None mid after same finds undone = tt
+undoes_found change found (Some rows) mid after same finds undone =
+    subst (λ (f : Option KeptRow). UndoesFound change.was_kept change.row f (Some rows) after) finds
+    (subst (λ (r : Option (List KeptRow)). UndoesFound change.was_kept change.row found r after) same undone)
 
 -- over a file that held these rows as it was first opened
 module _ (at_first : Option (List KeptRow)) where
@@ -103,22 +131,22 @@ module _ (at_first : Option (List KeptRow)) where
     unfolding seen
     seen_passes P o n h = λ steady. let s = h (steadied n steady) in (unsteadied o s.0, s.1)
 
-    across : (P : Option (List KeptRow) → Option (List KeptRow) → Type 0) (lost : Bool) (old new : Option (Held S)) (f f' : ℕ) → Passes g P old new
-        → Across at_first P (file_view g old lost f).file (file_view g new lost f').file
-    across P true old new f f' h = tt
-    across P false None None f f' h = tt
-    across P false None (Some n) f f' h = absurd (cc)
-    across P false (Some o) None f f' h = h
-    across P false (Some o) (Some n) f f' h = seen_passes P o n h
+    across : (P : Option (List KeptRow) → Option (List KeptRow) → Type 0) (lost : Bool) (old new : Option (Held S)) (u u' : Option Doubt) (f f' : ℕ) → Passes g P old new
+        → Across at_first P (file_view g old lost u f).file (file_view g new lost u' f').file
+    across P true old new u u' f f' h = tt
+    across P false None None u u' f f' h = tt
+    across P false None (Some n) u u' f f' h = absurd (cc)
+    across P false (Some o) None u u' f f' h = h
+    across P false (Some o) (Some n) u u' f f' h = seen_passes P o n h
 
-    pub across_from : (P : Option (List KeptRow) → Option (List KeptRow) → Type 0) (lost : Bool) (old new : Option (Held S)) (f f' : ℕ) (before : FileRows)
-        → file_view g old lost f ≡ before → Passes g P old new → Across at_first P before.file (file_view g new lost f').file
-    across_from P lost old new f f' before is h = subst (λ (v : FileRows). Across at_first P v.file (file_view g new lost f').file) is (across P lost old new f f' h)
+    pub across_from : (P : Option (List KeptRow) → Option (List KeptRow) → Type 0) (lost : Bool) (old new : Option (Held S)) (u u' : Option Doubt) (f f' : ℕ) (before : FileRows)
+        → file_view g old lost u f ≡ before → Passes g P old new → Across at_first P before.file (file_view g new lost u' f').file
+    across_from P lost old new u u' f f' before is h = subst (λ (v : FileRows). Across at_first P v.file (file_view g new lost u' f').file) is (across P lost old new u u' f f' h)
 
-    there_in : (lost : Bool) (new : Option (Held S)) (f : ℕ) → lost ≡ false → IsSome new → IsSome (file_view g new lost f).file
-    there_in true new f was some = absurd (cc)
-    there_in false None f was some = absurd (cc)
-    there_in false (Some n) f was some = refl
+    there_in : (lost : Bool) (new : Option (Held S)) (u : Option Doubt) (f : ℕ) → lost ≡ false → IsSome new → IsSome (file_view g new lost u f).file
+    there_in true new u f was some = absurd (cc)
+    there_in false None u f was some = absurd (cc)
+    there_in false (Some n) u f was some = refl
 
     -- of a file that was shut and is opened
     across_opened : (new : Option (Held S)) → TellsRows g at_first new → Across at_first Same None (option_map (seen g) new)
@@ -127,79 +155,104 @@ module _ (at_first : Option (List KeptRow)) where
     across_opened (Some n) h = λ steady. h (steadied n steady)
 
     -- a file that is open after the connection was opened if it was shut, and then undid what was in doubt, if anything was
-    pub settled_by : (lost : Bool) (old mid new : Option (Held S)) (f f' : ℕ) (before : FileRows) → file_view g old lost f ≡ before → (IsSome old → mid ≡ old) → (old ≡ None → TellsRows g at_first mid)
-        → IsSome mid → (lost ≡ false → new ≡ mid) → Done at_first Same before (file_view g new lost f')
-    settled_by true old mid new f f' before is stays empty there same = record {
+    pub settled_by : (lost : Bool) (old mid new : Option (Held S)) (u u' : Option Doubt) (f f' : ℕ) (before : FileRows) → file_view g old lost u f ≡ before → (IsSome old → mid ≡ old) → (old ≡ None → TellsRows g at_first mid)
+        → IsSome mid → (lost ≡ false → new ≡ mid) → Done at_first Same before (file_view g new lost u' f')
+    settled_by true old mid new u u' f f' before is stays empty there same = record {
       lost = ap (λ (v : FileRows). v.is_lost) is;
       there = λ was. absurd (let w = was in cc);
       rows = subst (λ (v : FileRows). Across at_first Same v.file None) is tt;
     }
-    settled_by false (Some o) mid new f f' before is stays empty there same = record {
+    settled_by false (Some o) mid new u u' f f' before is stays empty there same = record {
       lost = ap (λ (v : FileRows). v.is_lost) is;
-      there = λ was. there_in false new f' refl (subst (λ (m : Option (Held S)). IsSome m) (sym (same refl)) there);
+      there = λ was. there_in false new u' f' refl (subst (λ (m : Option (Held S)). IsSome m) (sym (same refl)) there);
       rows = subst (λ (v : FileRows). Across at_first Same v.file (option_map (seen g) new)) is
           (subst (λ (m : Option (Held S)). Across at_first Same (Some (seen g o)) (option_map (seen g) m)) (sym (same refl ∙ stays refl)) (λ steady. (steady, refl)));
     }
-    settled_by false None mid new f f' before is stays empty there same = record {
+    settled_by false None mid new u u' f f' before is stays empty there same = record {
       lost = ap (λ (v : FileRows). v.is_lost) is;
-      there = λ was. there_in false new f' refl (subst (λ (m : Option (Held S)). IsSome m) (sym (same refl)) there);
+      there = λ was. there_in false new u' f' refl (subst (λ (m : Option (Held S)). IsSome m) (sym (same refl)) there);
       rows = subst (λ (v : FileRows). Across at_first Same v.file (option_map (seen g) new)) is (across_opened new (subst (λ (m : Option (Held S)). TellsRows g at_first m) (sym (same refl)) (empty refl)));
     }
 
-    pub done_by : (P : Option (List KeptRow) → Option (List KeptRow) → Type 0) (first mid last : FileRows) (lost : Bool) (f f' : ℕ) (old new : Option (Held S)) → Done at_first Same first mid
-        → file_view g old lost f ≡ mid → IsSome new → Passes g P old new → last.file ≡ (file_view g new lost f').file → last.is_lost ≡ lost → Done at_first P first last
-    done_by P first mid last lost f f' old new d is some h file lose = record {
+    pub done_by : (P : Option (List KeptRow) → Option (List KeptRow) → Type 0) (first mid last : FileRows) (lost : Bool) (u u' : Option Doubt) (f f' : ℕ) (old new : Option (Held S)) → Done at_first Same first mid
+        → file_view g old lost u f ≡ mid → IsSome new → Passes g P old new → last.file ≡ (file_view g new lost u' f').file → last.is_lost ≡ lost → Done at_first P first last
+    done_by P first mid last lost u u' f f' old new d is some h file lose = record {
       lost = lose ∙ ap (λ (v : FileRows). v.is_lost) is ∙ d.lost;
-      there = λ was. subst (λ (o : Option Seen). IsSome o) (sym file) (there_in lost new f' (sym lose ∙ was) some);
-      rows = subst (λ (o : Option Seen). Across at_first P first.file o) (sym file) (compose P first.file mid.file (file_view g new lost f').file d.rows (across_from P lost old new f f' mid is h));
+      there = λ was. subst (λ (o : Option Seen). IsSome o) (sym file) (there_in lost new u' f' (sym lose ∙ was) some);
+      rows = subst (λ (o : Option Seen). Across at_first P first.file o) (sym file) (compose P first.file mid.file (file_view g new lost u' f').file d.rows (across_from P lost old new u u' f f' mid is h));
     }
 
     -- a change that was done
-    pub done_after : (P : Option (List KeptRow) → Option (List KeptRow) → Type 0) (first mid last : FileRows) (lost : Bool) (f f' : ℕ) (old new : Option (Held S)) (r answer : Result (Unit {0}) KeepFault)
-        → Done at_first Same first mid → file_view g old lost f ≡ mid → OnOk r (IsSome new) → OnOk r (Passes g P old new)
-        → answer ≡ r → OnOk answer (last.file ≡ (file_view g new lost f').file) → OnOk answer (last.is_lost ≡ lost) → OnOk answer (Done at_first P first last)
-    done_after P first mid last lost f f' old new r (Err e) d is some h same file lose = tt
-    done_after P first mid last lost f f' old new r (Ok x) d is some h same file lose =
-        done_by P first mid last lost f f' old new d is (rw (sym same) at some) (rw (sym same) at h) file lose
+    pub done_after : (P : Option (List KeptRow) → Option (List KeptRow) → Type 0) (first mid last : FileRows) (lost : Bool) (u u' : Option Doubt) (f f' : ℕ) (old new : Option (Held S)) (r answer : Result (Unit {0}) KeepFault)
+        → Done at_first Same first mid → file_view g old lost u f ≡ mid → OnOk r (IsSome new) → OnOk r (Passes g P old new)
+        → answer ≡ r → OnOk answer (last.file ≡ (file_view g new lost u' f').file) → OnOk answer (last.is_lost ≡ lost) → OnOk answer (Done at_first P first last)
+    done_after P first mid last lost u u' f f' old new r (Err e) d is some h same file lose = tt
+    done_after P first mid last lost u u' f f' old new r (Ok x) d is some h same file lose =
+        done_by P first mid last lost u u' f f' old new d is (rw (sym same) at some) (rw (sym same) at h) file lose
 
     -- and one that failed
-    pub failed_after : (first mid last : FileRows) (lost : Bool) (f f' : ℕ) (old new : Option (Held S)) (r answer : Result (Unit {0}) KeepFault)
-        → Done at_first Same first mid → file_view g old lost f ≡ mid → OnErr r (Passes g Same old new)
-        → answer ≡ r → OnErr answer (Failed at_first (file_view g new lost f') last) → OnErr answer (Failed at_first first last)
-    failed_after first mid last lost f f' old new r (Ok x) d is h same failed = tt
-    failed_after first mid last lost f f' old new r (Err e) d is h same failed = record {
+    pub failed_after : (first mid last : FileRows) (lost : Bool) (u u' : Option Doubt) (f f' : ℕ) (old new : Option (Held S)) (r answer : Result (Unit {0}) KeepFault)
+        → Done at_first Same first mid → file_view g old lost u f ≡ mid → OnErr r (Passes g Same old new)
+        → answer ≡ r → OnErr answer (Failed at_first (file_view g new lost u' f') last) → OnErr answer (Failed at_first first last)
+    failed_after first mid last lost u u' f f' old new r (Ok x) d is h same failed = tt
+    failed_after first mid last lost u u' f f' old new r (Err e) d is h same failed = record {
       lost = λ was. failed.lost (ap (λ (v : FileRows). v.is_lost) is ∙ d.lost ∙ was);
-      rows = λ was. compose Same first.file (file_view g new lost f').file last.file
-          (compose Same first.file mid.file (file_view g new lost f').file d.rows (across_from Same lost old new f f' mid is (rw (sym same) at h))) (failed.rows was);
+      rows = λ was. compose Same first.file (file_view g new lost u' f').file last.file
+          (compose Same first.file mid.file (file_view g new lost u' f').file d.rows (across_from Same lost old new u u' f f' mid is (rw (sym same) at h))) (failed.rows was);
     }
 
     -- and one of which the connection can still tell
-    pub failed_from : (lost : Bool) (old new : Option (Held S)) (f f' : ℕ) (before : FileRows) → file_view g old lost f ≡ before → Passes g Same old new
-        → Failed at_first before (file_view g new lost f')
-    failed_from lost old new f f' before is h = record {
+    pub failed_from : (lost : Bool) (old new : Option (Held S)) (u u' : Option Doubt) (f f' : ℕ) (before : FileRows) → file_view g old lost u f ≡ before → Passes g Same old new
+        → Failed at_first before (file_view g new lost u' f')
+    failed_from lost old new u u' f f' before is h = record {
       lost = λ was. ap (λ (v : FileRows). v.is_lost) is ∙ was;
-      rows = λ kept. across_from Same lost old new f f' before is h;
+      rows = λ kept. across_from Same lost old new u u' f f' before is h;
     }
 
-    -- a list
-    pub listed_after : (first mid last : FileRows) (lost : Bool) (f f' : ℕ) (old new : Option (Held S)) (r answer : Result (Vec KeptRow Global) KeepFault)
-        → Done at_first Same first mid → file_view g old lost f ≡ mid → OnOk r (IsSome new) → IfOk r (λ rows. Passes g (λ before after. Same before after × Lists rows.items before) old new)
-        → answer ≡ r → OnOk answer (last.file ≡ (file_view g new lost f').file) → OnOk answer (last.is_lost ≡ lost)
-        → IfOk answer (λ list. Done at_first (λ before after. Same before after × Lists list.items before) first last)
-    listed_after first mid last lost f f' old new r (Err e) d is some h same file lose = tt
-    listed_after first mid last lost f f' old new r (Ok list) d is some h same file lose =
-        done_by (λ before after. Same before after × Lists list.items before) first mid last lost f f' old new d is (rw (sym same) at some) (rw (sym same) at h) file lose
+    -- ---- what is in doubt
 
-    tells_in : (list : List KeptRow) (lost : Bool) (old new : Option (Held S)) (f : ℕ) → Passes g (λ before after. Same before after × Lists list before) old new
-        → ListsIn list (file_view g new lost f).file
+    -- a change is undone by what was found at its number
+    pub undone_by : (change : Doubt) (found : Option KeptRow) (a b c : Option (Held S)) → Passes g (λ before after. Same before after × Finds change.row.number found before) a b
+        → Passes g (UndoesFound change.was_kept change.row found) b c → Passes g (Undoes (Some change)) a c
+    undone_by change found None None c h k = k
+    undone_by change found None (Some b) c h k = absurd (cc)
+    undone_by change found (Some a) None c h k = absurd h
+    undone_by change found (Some a) (Some b) None h k = k
+    undone_by change found (Some a) (Some b) (Some c) h k = λ steady. let s = k steady in let t = h s.0 in (t.0, undoes_found change found (told (state g a).now) (told (state g b).now) (told (state g c).now) t.1.0 t.1.1 s.1)
+
+    -- a row that was found and could not be dropped is still the row of its number
+    pub was_found : (number : ℕ) (row : KeptRow) (lost : Bool) (a b c : Option (Held S)) (u : Option Doubt) (f : ℕ) (r : Result (Unit {0}) KeepFault)
+        → Passes g (λ before after. Same before after × Finds number (Some row) before) a b → OnErr r (Passes g Same b c)
+        → OnErr r (IsOfRowsIn (record { row = record row { number = number }; was_kept = true }) (file_view g c lost u f).file)
     unfolding seen
-    tells_in list true old new f h = tt
-    tells_in list false old None f h = tt
-    tells_in list false None (Some n) f h = absurd (cc)
-    tells_in list false (Some o) (Some n) f h = λ steady. let s = h (steadied n steady) in subst (λ (r : Option (List KeptRow)). Lists list r) (sym s.1.0) s.1.1
+    was_found number row lost a b c u f (Ok x) h k = tt
+    was_found number row true a b c u f (Err e) h k = tt
+    was_found number row false a b None u f (Err e) h k = tt
+    was_found number row false None None (Some c) u f (Err e) h k = absurd (cc)
+    was_found number row false None (Some b) (Some c) u f (Err e) h k = absurd (cc)
+    was_found number row false (Some a) None (Some c) u f (Err e) h k = absurd h
+    was_found number row false (Some a) (Some b) (Some c) u f (Err e) h k =
+        λ steady. let s = k (steadied c steady) in let t = h s.0 in of_rows number row (told (state g a).now) (told (state g c).now) t.1.1 (s.1 ∙ t.1.0)
 
-    pub told_after : (last : FileRows) (lost : Bool) (f : ℕ) (old new : Option (Held S)) (r answer : Result (Vec KeptRow Global) KeepFault)
+    -- a list
+    pub listed_after : (first mid last : FileRows) (lost : Bool) (u u' : Option Doubt) (f f' : ℕ) (old new : Option (Held S)) (r answer : Result (Vec KeptRow Global) KeepFault)
+        → Done at_first Same first mid → file_view g old lost u f ≡ mid → OnOk r (IsSome new) → IfOk r (λ rows. Passes g (λ before after. Same before after × Lists rows.items before) old new)
+        → answer ≡ r → OnOk answer (last.file ≡ (file_view g new lost u' f').file) → OnOk answer (last.is_lost ≡ lost)
+        → IfOk answer (λ list. Done at_first (λ before after. Same before after × Lists list.items before) first last)
+    listed_after first mid last lost u u' f f' old new r (Err e) d is some h same file lose = tt
+    listed_after first mid last lost u u' f f' old new r (Ok list) d is some h same file lose =
+        done_by (λ before after. Same before after × Lists list.items before) first mid last lost u u' f f' old new d is (rw (sym same) at some) (rw (sym same) at h) file lose
+
+    tells_in : (list : List KeptRow) (lost : Bool) (old new : Option (Held S)) (u : Option Doubt) (f : ℕ) → Passes g (λ before after. Same before after × Lists list before) old new
+        → ListsIn list (file_view g new lost u f).file
+    unfolding seen
+    tells_in list true old new u f h = tt
+    tells_in list false old None u f h = tt
+    tells_in list false None (Some n) u f h = absurd (cc)
+    tells_in list false (Some o) (Some n) u f h = λ steady. let s = h (steadied n steady) in subst (λ (r : Option (List KeptRow)). Lists list r) (sym s.1.0) s.1.1
+
+    pub told_after : (last : FileRows) (lost : Bool) (u : Option Doubt) (f : ℕ) (old new : Option (Held S)) (r answer : Result (Vec KeptRow Global) KeepFault)
         → IfOk r (λ rows. Passes g (λ before after. Same before after × Lists rows.items before) old new)
-        → answer ≡ r → OnOk answer (last.file ≡ (file_view g new lost f).file) → IfOk answer (λ list. ListsIn list.items last.file)
-    told_after last lost f old new r (Err e) h same file = tt
-    told_after last lost f old new r (Ok list) h same file = subst (λ (o : Option Seen). ListsIn list.items o) (sym file) (tells_in list.items lost old new f (rw (sym same) at h))
+        → answer ≡ r → OnOk answer (last.file ≡ (file_view g new lost u f).file) → IfOk answer (λ list. ListsIn list.items last.file)
+    told_after last lost u f old new r (Err e) h same file = tt
+    told_after last lost u f old new r (Ok list) h same file = subst (λ (o : Option Seen). ListsIn list.items o) (sym file) (tells_in list.items lost old new u f (rw (sym same) at h))

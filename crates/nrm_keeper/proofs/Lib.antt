@@ -6,6 +6,7 @@ pub mod Creates
 pub mod Inserts
 pub mod Deletes
 pub mod Selects
+pub mod Finds
 pub mod AnySchema
 pub mod AnyState
 pub mod Steady

@@ -1,9 +1,10 @@
 -- What callers see of a keeper over a file of `sqlite`, or another store that others may write.
-use Rattle.std.specs.Prelude.{ℕ, ◌≡◌, ◌&&◌, Bool, true, false, List, Option, Some, None, IsSome, IfSome, IsTrue, option_map, if◌then◌else◌, ⊤}
+use Rattle.std.specs.Prelude.{ℕ, ◌≡◌, ◌&&◌, Bool, true, false, List, Option, Some, None, IsSome, IfSome, IsTrue, is_some, option_map, if◌then◌else◌, ⊤}
 use Rattle.sqlite_trees.specs.declared.store.Store.{Ghosts}
 use Rattle.sqlite.specs.Held.{Held, state}
 use Rattle.nrm_keeper.specs.Rows.{Lists}
 use Rattle.nrm_keeper.specs.Stored.{told}
+use Rattle.nrm_keeper.specs.declared.row.Doubt.{Doubt}
 use Rattle.nrm_keeper.specs.declared.row.KeptRow.{KeptRow}
 
 -- a keeper of a file tells the trait no rows: it can't promise to tell them still after a call
@@ -15,10 +16,13 @@ pub record Seen : Type 0 where
   pub is_steady : Bool
   pub rows : Option (List KeptRow)
 
--- the file as it was first opened, if it is open; whether it was lost since; and how often a call has failed
+-- the file as it was first opened, if it is open; whether it was lost since; whether a connection is open; the change that is in doubt, if one is;
+-- and how often a call has failed
 pub record FileRows : Type 0 where
   pub file : Option Seen
   pub is_lost : Bool
+  pub is_open : Bool
+  pub doubt : Option Doubt
   pub faults : ℕ
 
 -- what the opener of a path shows: whether the file of the path belongs to this run, and how often an opening has failed
@@ -29,8 +33,14 @@ pub record OwnedPath : Type 0 where
 unfoldable pub seen : {S : Type 0} → Ghosts S → Held S → Seen
 seen g h = record { is_steady = (state g h).is_clean && (state g h).is_open; rows = told (state g h).now }
 
-abbrev pub file_view : {S : Type 0} → Ghosts S → Option (Held S) → Bool → ℕ → FileRows
-file_view g connection lost faults = record { file = if lost then None else option_map (seen g) connection; is_lost = lost; faults = faults }
+abbrev pub file_view : {S : Type 0} → Ghosts S → Option (Held S) → Bool → Option Doubt → ℕ → FileRows
+file_view g connection lost doubt faults = record {
+  file = if lost then None else option_map (seen g) connection;
+  is_lost = lost;
+  is_open = is_some connection;
+  doubt = doubt;
+  faults = faults;
+}
 
 -- if the file is open, it is clean and open
 abbrev pub IsSteadyIfOpen : Option Seen → Type 0

@@ -8,3 +8,4 @@ pub mod Rows
 pub mod Steady
 pub mod Stored
 pub mod Told
+pub mod Undoing

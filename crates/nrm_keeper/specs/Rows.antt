@@ -1,6 +1,6 @@
 -- Kept rows, and what a call of a keeper does to them.
 use Rattle.std.specs.Prelude.{◌≡◌, ℕ, ◌==◌, ◌<◌, nat_lt, Bool, true, false, not, ◌&&◌, if◌then◌else◌, ⊤}
-use Rattle.std.specs.Prelude.{List, [], ◌∷◌, ◌++◌, filter, All, Option, Some, None, Result, Ok, Err}
+use Rattle.std.specs.Prelude.{List, [], ◌∷◌, ◌++◌, filter, find, All, Option, Some, None, Result, Ok, Err}
 use Rattle.std.specs.List.{list_all, list_any}
 use Rattle.nrm_keeper.specs.declared.row.KeptRow.{KeptRow}
 use Rattle.nrm_keeper.specs.declared.row.KeepFault.{KeepFault}
@@ -18,6 +18,10 @@ told_if_rising rows = if rise rows then Some rows else None
 -- some row has the number
 abbrev pub is_kept : ℕ → List KeptRow → Bool
 is_kept number rows = list_any (λ row. row.number == number) rows
+
+-- the first row of the number, if there is one
+abbrev pub numbered : ℕ → List KeptRow → Option KeptRow
+numbered number rows = find (λ row. row.number == number) rows
 
 -- the rows of other numbers
 abbrev pub without : ℕ → List KeptRow → List KeptRow
@@ -42,6 +46,11 @@ Keeps (Some rows) after = after ≡ Some rows
 abbrev pub Lists : List KeptRow → Option (List KeptRow) → Type 0
 Lists list None = ⊤
 Lists list (Some rows) = list ≡ rows
+
+-- if rows are told, what was found is the row of the number among them
+abbrev pub Finds : ℕ → Option KeptRow → Option (List KeptRow) → Type 0
+Finds number found None = ⊤
+Finds number found (Some rows) = found ≡ numbered number rows
 
 -- the answer says that the keeper failed; that memory ran out is no failure of the keeper
 abbrev pub has_failed : {T : Type 0} → Result T KeepFault → Bool

@@ -6,23 +6,17 @@ ghost use Rattle.std.specs.Prelude.{◌≡◌, ◌<◌, ◌^◌, None, Some, IfO
 ghost use Rattle.nrm_edge.specs.Causes.{counted};
 ghost use Rattle.nrm_keeper.specs.Rows.{has_failed};
 ghost use Rattle.nrm_keeper.specs.Steady.{IsSettled};
-ghost use Rattle.nrm_keeper.specs.Passes.{TellsRows};
+ghost use Rattle.nrm_keeper.specs.Passes.{Passes, TellsRows};
+ghost use Rattle.nrm_keeper.specs.Undoing.{Undoes, UndoesFound};
 
 use crate::causes::{fault_of, raised};
 use crate::opener::{Beginning, Opener, PathOpener};
 use crate::shut::{drop_in, find_in, keep_in, list_in};
-use crate::{KeepFault, Keeper, KeptRow};
+use crate::{Doubt, KeepFault, Keeper, KeptRow};
 use sqlite::{Alter, Connection, FileFrom, FileStore};
 use std::alloc::Global;
 use std::marker::Model;
 use std::rt::HostRuntime;
-
-// A change that failed, and may be in the file all the same: the row, and whether it was kept before.
-#[derive(Clone, Copy)]
-struct Doubt {
-    row: KeptRow,
-    was_kept: bool,
-}
 
 /// Rows in a table of a file, and a count of faults. A fault is a file that can't be opened, a statement that is refused
 /// for another cause than memory, a DELETE that removes no row, or a row of the table that is no kept row. After a call
@@ -50,7 +44,7 @@ impl<T: Alter + Drop, O: Opener<T>> Model for StoreKeeper<T, O> {
 
     ghost Value = { FileRows };
 
-    ghost view = { λ s. file_view T.Store s.connection s.lost s.faults };
+    ghost view = { λ s. file_view T.Store s.connection s.lost s.doubt s.faults };
 
     ghost invariant = { λ s. IsSettled T.Store s.connection
         × IfSome s.doubt (λ doubt. (doubt.row.number < 10 ^ 12) × IsTrue s.lost) };
@@ -61,7 +55,7 @@ impl<'a, S: Beginning> FileKeeper<'a, S> {
 
     /// A keeper over the file of this path. It takes no memory and opens nothing.
     pub fn new(rt: &'a HostRuntime, path: &'a str) -> FileKeeper<'a, S>
-        ensures { result ≡ record { file = None; is_lost = false; faults = 0 } }
+        ensures { result ≡ record { file = None; is_lost = false; is_open = false; doubt = None; faults = 0 } }
     {
         StoreKeeper::over(PathOpener::new(rt, path))
     }
@@ -72,13 +66,10 @@ impl<'a, S: Beginning> FileKeeper<'a, S> {
     ///
     /// # Errors
     /// `Failed` if the log could not be copied in: the rows then stand in both files, as they did.
-    pub fn close(mut self) -> Result<(), KeepFault>
+    pub fn close(mut self, alloc: Global) -> Result<(), KeepFault>
         ensures unopened { self.entry.file ≡ None → self.entry.is_lost ≡ false → IsOk result }
     {
-        if self.doubt.is_some() {
-            let alloc = self.opener.alloc();
-            let _undone = self.settle(alloc);
-        }
+        self.finish(alloc);
         let StoreKeeper {
             opener,
             connection,
@@ -97,14 +88,15 @@ impl<'a, S: Beginning> FileKeeper<'a, S> {
 }
 
 impl<T: Alter + Drop, O: Opener<T>> StoreKeeper<T, O> {
-    ghost use Rattle.std.specs.Prelude.{◌≡◌, ◌<◌, ◌^◌, None, true, false, OnOk, OnErr};
+    ghost use Rattle.std.specs.Prelude.{◌≡◌, ◌⊎◌, ◌<◌, ◌^◌, None, true, false, IsTrue, OnOk, OnErr};
     ghost use Rattle.nrm_edge.specs.Causes.{counted};
     ghost use Rattle.nrm_keeper.specs.Rows.{has_failed};
-    ghost use Rattle.nrm_keeper.specs.File.{Done, Failed, Same};
+    ghost use Rattle.nrm_keeper.specs.File.{Done, Failed, IsTrusted, Same, shown_in};
+    ghost use Rattle.nrm_keeper.specs.Undoing.{IsInDoubt, IsOfRowsIn};
 
     /// A keeper over the store that is opened so. It takes no memory and opens nothing.
     pub fn over(opener: O) -> StoreKeeper<T, O>
-        ensures { result ≡ record { file = None; is_lost = false; faults = 0 } }
+        ensures { result ≡ record { file = None; is_lost = false; is_open = false; doubt = None; faults = 0 } }
     {
         StoreKeeper {
             opener,
@@ -115,11 +107,26 @@ impl<T: Alter + Drop, O: Opener<T>> StoreKeeper<T, O> {
         }
     }
 
+    /// Undoes a change that is still in doubt, if that can be done now. No other row changes.
+    pub fn finish(&mut self, alloc: Global)
+        ensures faults { self.new.faults ≡ self.old.faults }
+        ensures lost { self.new.is_lost ≡ self.old.is_lost }
+        ensures doubt { (self.new.doubt ≡ None) ⊎ (self.new.doubt ≡ self.old.doubt) }
+        ensures nothing { self.old.doubt ≡ None → self.new ≡ self.old }
+        ensures shows { IsTrusted self.new → IsTrusted self.old × (shown_in O.first self.new ≡ shown_in O.first self.old) }
+    {
+        if self.doubt.is_some() {
+            let _undone = self.settle(alloc);
+        }
+    }
+
     // Opens the file if it isn't open, and undoes a change that is in doubt.
     fn settle(&mut self, alloc: Global) -> Result<(), KeepFault>
         ensures faults { self.new.faults ≡ self.old.faults }
         ensures lost { self.new.is_lost ≡ self.old.is_lost }
         ensures done { OnOk result (Done O.first Same self.old self.new) }
+        ensures undone { OnOk result ((self.new.doubt ≡ None) × IsTrue self.new.is_open) }
+        ensures doubt { OnErr result (self.new.doubt ≡ self.old.doubt) }
     {
         open_if_shut(&mut self.opener, &mut self.connection)?;
         let undone = undo(alloc, &mut self.connection, &self.doubt);
@@ -139,6 +146,7 @@ impl<T: Alter + Drop, O: Opener<T>> StoreKeeper<T, O> {
         ensures file { OnOk result (self.new.file ≡ self.old.file) }
         ensures stays { OnOk result (self.new.is_lost ≡ self.old.is_lost) }
         ensures lost { OnErr result (self.new.is_lost ≡ true) }
+        ensures doubt { self.new.doubt ≡ self.old.doubt }
     {
         match answer {
             Ok(value) => Ok(value),
@@ -158,12 +166,16 @@ impl<T: Alter + Drop, O: Opener<T>> StoreKeeper<T, O> {
         change: Doubt,
         answer: Result<(), KeepFault>,
     ) -> Result<(), KeepFault>
-        requires { change.row.number < 10 ^ 12 }
+        requires number { change.row.number < 10 ^ 12 }
+        requires settled { self.old.doubt ≡ None }
+        requires was { OnErr answer (IsOfRowsIn change self.old.file) }
         ensures answer { result ≡ answer }
         ensures counts { self.new.faults ≡ counted (has_failed answer) self.old.faults }
         ensures file { OnOk result (self.new.file ≡ self.old.file) }
         ensures stays { OnOk result (self.new.is_lost ≡ self.old.is_lost) }
         ensures same { OnErr result (Failed O.first self.old self.new) }
+        ensures undone { OnOk result (self.new.doubt ≡ None) }
+        ensures doubt { OnErr result (IsInDoubt change self.new) }
     {
         match answer {
             Ok(()) => Ok(()),
@@ -176,9 +188,11 @@ impl<T: Alter + Drop, O: Opener<T>> StoreKeeper<T, O> {
 
     // A change failed: it is in doubt if the connection can't tell any more.
     fn doubted(&mut self, alloc: Global, change: Doubt)
-        requires { change.row.number < 10 ^ 12 }
+        requires number { change.row.number < 10 ^ 12 }
+        requires settled { self.old.doubt ≡ None }
         ensures faults { self.new.faults ≡ self.old.faults }
         ensures same { Failed O.first self.old self.new }
+        ensures doubt { IsInDoubt change self.new }
     {
         if find_in(alloc, &mut self.connection, change.row.number).is_ok() {
             return;
@@ -227,18 +241,36 @@ fn undo<T: Alter>(
     ensures settled { IsSettled T.Store connection.new }
     ensures there { IsSome connection.old → OnOk result (IsSome connection.new) }
     ensures nothing { doubt.now ≡ None → connection.new ≡ connection.old }
+    ensures undoes { OnOk result (Passes T.Store (Undoes doubt.now) connection.old connection.new) }
 {
-    let Some(doubt) = doubt else {
+    let Some(change) = doubt else {
         return Ok(());
     };
-    match find_in(alloc, connection, doubt.row.number) {
-        Ok(None) if doubt.was_kept => keep_in(connection, &doubt.row),
-        Ok(Some(found)) if !doubt.was_kept && found == doubt.row => drop_in(
-            connection,
-            doubt.row.number,
-        ),
-        Ok(_) => Ok(()),
+    match find_in(alloc, connection, change.row.number) {
+        Ok(found) => undo_by(connection, change, found),
         Err(fault) => Err(fault),
+    }
+}
+
+// Undoes a change by the row that was found at its number.
+fn undo_by<T: Alter>(
+    connection: &mut Option<Connection<T>>,
+    change: &Doubt,
+    found: Option<KeptRow>,
+) -> Result<(), KeepFault>
+    requires number { change.now.row.number < 10 ^ 12 }
+    requires settled { IsSettled T.Store connection.old }
+    ensures settled { IsSettled T.Store connection.new }
+    ensures there { IsSome connection.old → OnOk result (IsSome connection.new) }
+    ensures undoes { OnOk result (Passes T.Store (UndoesFound change.now.was_kept change.now.row found) connection.old connection.new) }
+{
+    match found {
+        None if change.was_kept => keep_in(connection, &change.row),
+        Some(row) if !change.was_kept && row == change.row => drop_in(
+            connection,
+            change.row.number,
+        ),
+        _ => Ok(()),
     }
 }
 
@@ -247,6 +279,7 @@ impl<T: Alter + Drop, O: Opener<T>> Keeper for StoreKeeper<T, O> {
     ghost use Rattle.nrm_edge.specs.Causes.{counted};
     ghost use Rattle.nrm_keeper.specs.Rows.{Adds, Drops, Keeps, Lists, has_failed};
     ghost use Rattle.nrm_keeper.specs.File.{Done, Failed, IsTrusted, ListsIn, Same, shown_in, untold};
+    ghost use Rattle.nrm_keeper.specs.Undoing.{LeavesInDoubt, LeavesDropInDoubt};
 
     ghost rows = { λ _. None };
 
@@ -262,6 +295,8 @@ impl<T: Alter + Drop, O: Opener<T>> Keeper for StoreKeeper<T, O> {
         ensures added { OnOk result (Adds row untold untold) }
         ensures unchanged { OnErr result (untold ≡ untold) }
         ensures kept { OnOk result (Done O.first (Adds row) self.old self.new) }
+        ensures undone { OnOk result (self.new.doubt ≡ None) }
+        ensures doubt { OnErr result (LeavesInDoubt row self.old self.new) }
         ensures same { OnErr result (Failed O.first self.old self.new) }
         ensures shows { IsTrusted self.new → IsTrusted self.old × OnOk result (Adds row (shown_in O.first self.old) (shown_in O.first self.new))
             × OnErr result (shown_in O.first self.new ≡ shown_in O.first self.old) }
@@ -283,6 +318,8 @@ impl<T: Alter + Drop, O: Opener<T>> Keeper for StoreKeeper<T, O> {
         ensures dropped { OnOk result (Drops number untold untold) }
         ensures unchanged { OnErr result (untold ≡ untold) }
         ensures gone { OnOk result (Done O.first (Drops number) self.old self.new) }
+        ensures undone { OnOk result (self.new.doubt ≡ None) }
+        ensures doubt { OnErr result (LeavesDropInDoubt number self.old self.new) }
         ensures same { OnErr result (Failed O.first self.old self.new) }
         ensures shows { IsTrusted self.new → IsTrusted self.old × OnOk result (Drops number (shown_in O.first self.old) (shown_in O.first self.new))
             × OnErr result (shown_in O.first self.new ≡ shown_in O.first self.old) }
@@ -308,6 +345,7 @@ impl<T: Alter + Drop, O: Opener<T>> Keeper for StoreKeeper<T, O> {
         ensures listed { IfOk result (λ list. Lists list.items untold) }
         ensures stays { OnOk result (Keeps untold untold) }
         ensures unchanged { OnErr result (untold ≡ untold) }
+        ensures undone { OnOk result (self.new.doubt ≡ None) }
         ensures rows { IfOk result (λ list. Done O.first (λ before after. Same before after × Lists list.items before) self.old self.new) }
         ensures told { IfOk result (λ list. ListsIn list.items self.new.file) }
         ensures same { OnErr result (Failed O.first self.old self.new) }

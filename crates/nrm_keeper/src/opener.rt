@@ -11,13 +11,12 @@ use crate::KeepFault;
 use crate::causes::{fault_of, raised};
 use crate::owner::StoreOwner;
 use sqlite::{Alter, Connection, FileFrom, FileStore, Start, Unknown};
-use std::alloc::Global;
 use std::marker::{Model, PhantomData};
 use std::rt::HostRuntime;
 
-// The rows that a statement may visit: many times those that can stand (64 legs of 999 seats), so that only what has no end, as
-// a view may have none, is refused for it.
-const MOST_STEPS: u64 = 4_000_000;
+/// The rows that a statement may visit: many times those that can stand (64 legs of 999 seats), so that only what has no end, as
+/// a view may have none, is refused for it.
+pub const MOST_STEPS: u64 = 4_000_000;
 
 /// What opens the store of a keeper, always the same one, and counts the openings that failed: one for each that answers
 /// `Failed`, up to the last value of `u64`.
@@ -98,11 +97,6 @@ impl<'a, S: Beginning> PathOpener<'a, S> {
             first: PhantomData,
         }
     }
-
-    /// The allocator of the run.
-    pub(crate) fn alloc(&self) -> Global {
-        self.rt.alloc()
-    }
 }
 
 impl<S: Beginning> Opener<FileStore<FileFrom<S>>> for PathOpener<'_, S> {
@@ -117,6 +111,7 @@ impl<S: Beginning> Opener<FileStore<FileFrom<S>>> for PathOpener<'_, S> {
         ensures settled { IfOk result (λ connection. IsSettled over_files (Some connection)) }
         ensures first { IfOk result (λ connection. TellsRows over_files S.rows (Some connection)) }
         ensures counts { self.new.faults ≡ counted (has_failed result) self.old.faults }
+        ensures limited { IfOk result (λ connection. connection.step_limit ≡ Some MOST_STEPS) }
         ensures owned { OnOk result (self.new.is_owned ≡ true) }
         ensures stays { self.old.is_owned ≡ true → self.new.is_owned ≡ true }
     {

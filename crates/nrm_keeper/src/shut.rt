@@ -1,6 +1,6 @@
 //! The calls of a keeper on a connection that may be shut.
 ghost use Rattle.std.specs.Prelude.{◌<◌, ◌^◌, IfOk, OnOk, OnErr, IsSome};
-ghost use Rattle.nrm_keeper.specs.Rows.{Adds, Drops, Lists};
+ghost use Rattle.nrm_keeper.specs.Rows.{Adds, Drops, Finds, Lists};
 ghost use Rattle.nrm_keeper.specs.File.{Same};
 ghost use Rattle.nrm_keeper.specs.Steady.{IsSettled};
 ghost use Rattle.nrm_keeper.specs.Passes.{Passes};
@@ -57,6 +57,7 @@ pub(crate) fn find_in<S: Alter>(
     ensures settled { IsSettled S.Store connection.new }
     ensures there { OnOk result (IsSome connection.new) }
     ensures same { Passes S.Store Same connection.old connection.new }
+    ensures finds { IfOk result (λ found. Passes S.Store (λ before after. Same before after × Finds number found before) connection.old connection.new) }
 {
     match connection {
         Some(conn) => row_of(alloc, conn, number),

@@ -1,6 +1,6 @@
 //! The four fixed texts, each in a function of its own. Over a store that is clean and open, and in no transaction, each
 //! says what it does to the rows that are told. A store that is clean and open afterwards was so before.
-ghost use Rattle.std.specs.Prelude.{◌≡◌, pos, ◌<◌, ◌^◌, false, map, Some, IfOk, OnOk, OnErr};
+ghost use Rattle.std.specs.Prelude.{◌≡◌, ◌==◌, pos, ◌<◌, ◌^◌, false, filter, map, Some, IfOk, OnOk, OnErr};
 ghost use Rattle.sqlite.specs.Held.{state};
 ghost use Rattle.sqlite.specs.Value.{owned};
 ghost use Rattle.nrm_keeper.specs.Rows.{Adds, Drops};
@@ -115,6 +115,10 @@ pub(crate) fn select_rows<S: Alter>(conn: &mut Connection<S>) -> Result<Vec<Row>
 /// The rows of a number.
 pub(crate) fn find_row<S: Alter>(conn: &mut Connection<S>, number: u64) -> Result<Vec<Row>, Error>
     requires { number < 10 ^ 12 }
+    ensures finds { Speaks (state S.Store conn.old) (state S.Store conn.new) →
+        HoldsSome (state S.Store conn.old).now →
+        IfOk result (λ found. (rows : _) → told (state S.Store conn.old).now ≡ Some rows
+        → found.items ≡ map shown (filter (λ row. row.number == number) rows)) }
     ensures tells { Speaks (state S.Store conn.old) (state S.Store conn.new) →
         told (state S.Store conn.new).now ≡ told (state S.Store conn.old).now }
     ensures ends { Speaks (state S.Store conn.old) (state S.Store conn.new) → conn.new.in_transaction ≡ false }

@@ -2,7 +2,7 @@
 //! there. Over a store that is clean and open, and in no transaction, each says what it does to the rows that are told.
 ghost use Rattle.std.specs.Prelude.{◌≡◌, ◌<◌, ◌^◌, false, IfOk, OnOk, OnErr};
 ghost use Rattle.sqlite.specs.Held.{state};
-ghost use Rattle.nrm_keeper.specs.Rows.{Adds, Drops, Lists};
+ghost use Rattle.nrm_keeper.specs.Rows.{Adds, Drops, Finds, Lists};
 ghost use Rattle.nrm_keeper.specs.Stored.{told};
 ghost use Rattle.nrm_keeper.specs.Steady.{IsSteady};
 ghost use Rattle.nrm_keeper.specs.Inner.Statements.{Speaks};
@@ -75,6 +75,8 @@ pub(crate) fn row_of<S: Alter>(
     number: u64,
 ) -> Result<Option<KeptRow>, KeepFault>
     requires { number < 10 ^ 12 }
+    ensures finds { Speaks (state S.Store conn.old) (state S.Store conn.new) →
+        IfOk result (λ found. Finds number found (told (state S.Store conn.old).now)) }
     ensures tells { Speaks (state S.Store conn.old) (state S.Store conn.new) →
         told (state S.Store conn.new).now ≡ told (state S.Store conn.old).now }
     ensures ends { Speaks (state S.Store conn.old) (state S.Store conn.new) → conn.new.in_transaction ≡ false }

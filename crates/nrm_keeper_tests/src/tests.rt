@@ -390,7 +390,7 @@ fn two_keepers<S: Beginning>(rt: &HostRuntime, place: &Place) -> Result<(), Fail
     let mut first = FileKeeper::<S>::new(rt, &place.store);
     let mut second = FileKeeper::<S>::new(rt, &place.store);
     let told = first_has_it(&mut first, &mut second, rt.alloc());
-    let is_closed = first.close().is_ok();
+    let is_closed = first.close(rt.alloc()).is_ok();
     let has_it = keeps(&mut second, rt.alloc(), &[ONE]);
     told?;
     holds(is_closed, "the first is closed")?;
@@ -417,7 +417,7 @@ fn added_and_closed<S: Beginning>(rt: &HostRuntime, path: &str) -> Result<(), Fa
     let one = row(ONE)?;
     let mut keeper = new_in_file::<S>(rt, path);
     let is_added = add_shown_in_store(&mut keeper, rt.alloc(), one).is_ok();
-    let is_closed = keeper.close().is_ok();
+    let is_closed = keeper.close(rt.alloc()).is_ok();
     holds(is_added, "a row is added")?;
     holds(is_closed, "it is closed")
 }

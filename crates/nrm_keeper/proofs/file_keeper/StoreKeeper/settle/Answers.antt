@@ -13,5 +13,5 @@ undoubted N (Some d) lost it found = absurd (let l = it.1 in cc)
 
 pub returns-then-is_ok-clause-done : goal.returns-then-is_ok-clause-done
 returns-then-is_ok-clause-done g c = on_ok c.undo-undone.result
-    (settled_by g.O.Opener.first g.T.Store c.self.inside.lost c.self.inside.connection c.open_if_shut.new.connection c.undo-undone.new.connection c.self.inside.faults _ c.args.self.now c.self.view_is
+    (settled_by g.O.Opener.first g.T.Store c.self.inside.lost c.self.inside.connection c.open_if_shut.new.connection c.undo-undone.new.connection c.self.inside.doubt _ c.self.inside.faults _ c.args.self.now c.self.view_is
     c.open_if_shut.ensures.stays c.open_if_shut.ensures.first c.in_ok-open_if_shut.ensures.there (λ found. c.undo-undone.ensures.nothing (undoubted _ c.self.inside.doubt c.self.inside.lost c.self.invariant.1 found)))
