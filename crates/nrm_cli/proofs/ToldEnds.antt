@@ -49,11 +49,6 @@ module _ (asked : Option Job) (before after : Outside) where
   told-counts goes s text files source (inl (is, wrote, same)) quiet = rw is (quiet (record { files = files; source = source; sink = same }))
   told-counts goes s text files source (inr (is, front, rose)) quiet = rw is (source, inl files)
 
-pub told-done : (before after : Outside) (s : Status) (text : List ℕ) → after.file_faults ≡ before.file_faults
-    → after.source_faults ≡ before.source_faults
-    → PutsLine STATUSES text status.Done before.held after.held before.sink_faults after.sink_faults s → Failures s before after
-told-done before after s text files source puts = told-counts None before after status.Done s text files source puts (λ quiet. quiet)
-
 -- nothing failed where what a job tells of its network is put whole
 pub quiet-of-network : (before after : Outside) (s : Status) → IsOfNetwork s → NothingFailed before after → Failures s before after
 quiet-of-network before after status.Done fits quiet = quiet

@@ -72,11 +72,11 @@ fn assert_accounts(
 
 // The second leg has one seat left of the two that are asked for; the third line is sold, and the fourth gives it back whole.
 const STREAM: &[u8] =
-    b"book THRU 1\nbook THRU 2\nbook LOC 1\ncancel 2\nbook X 1\nreoptimise 1\nplan\nnothing\n";
+    b"book THRU 1\nbook THRU 2\nbook LOC 1\ncancel 2\nbook X 1\nreoptimise 1\nplan\nnothing\nleg AB\nleg NONE\n";
 
 #[test]
 fn each_kind_of_line_is_accounted_for(rt: HostRuntime) -> Result<(), Fail> {
-    let accounts: [(&str, &[u8]); 8] = [
+    let accounts: [(&str, &[u8]); 10] = [
         (
             "1",
             b"line 1 book THRU 1\nplan first opening period 1\nproduct THRU fare 500 refund 100\n\
@@ -109,6 +109,8 @@ fn each_kind_of_line_is_accounted_for(rt: HostRuntime) -> Result<(), Fail> {
         ),
         ("7", b"line 7 plan\n"),
         ("8", b"line 8 bad\nanswer bad\n"),
+        ("9", b"line 9 leg AB\n"),
+        ("10", b"line 10 leg NONE\nanswer unknown\n"),
     ];
     assert_accounts(&rt, NETWORK, "first", STREAM, &accounts)?;
     Ok(())
@@ -119,7 +121,11 @@ const USAGE: &[u8] = b"usage: nrm_why MODE FILE NUMBER\n";
 #[test]
 fn what_is_not_there_is_told(rt: HostRuntime) -> Result<(), Fail> {
     let told: [(&[&str], WhyStatus, &[u8]); 5] = [
-        (&["first", "F", "9"], WhyStatus::NoLine, b"absent line 9\n"),
+        (
+            &["first", "F", "11"],
+            WhyStatus::NoLine,
+            b"absent line 11\n",
+        ),
         (&["first", "F", "0"], WhyStatus::Usage, USAGE),
         (&["first", "F"], WhyStatus::Usage, USAGE),
         (&["fast", "F", "1"], WhyStatus::Usage, USAGE),

@@ -188,12 +188,6 @@ nothing-of : (xs : List ℕ) → length xs ≡ 0 → xs ≡ []
 nothing-of [] is = refl
 nothing-of (x ∷ xs) is = absurd (omega arith)
 
-module _ (old new : List ℕ) (coming coming' : Option (List ℕ)) where
-  pub none-came : (count : ℕ) → count ≡ 0 → TakesMore old new coming coming' (Ok count) → (new ≡ old) × Consumes coming coming' [] × IsAtEnd coming'
-  none-came count zero (piece, longer, size, consumes, ends) =
-      let nothing = nothing-of piece (size ∙ zero) in
-      (longer ∙ ap (λ (p : List ℕ). old ++ p) nothing ∙ append-nil old, subst (Consumes coming coming') nothing consumes, ends zero)
-
 -- ---- an end of serving, by what a piece or a take came to
 pub piece-ends : (start : ControlValue) (before after : Streams) (faults : ℕ) (hub : HubValue) (left : List ℕ) (ready : Bool) (e : ServeEnd)
     → StandsOr start before after faults hub left ready (Some e) → faults ≡ before.sink_faults → ServesTo start before after e
@@ -244,11 +238,3 @@ module _ (start : ControlValue) (before at : Streams) (hub : HubValue) (old new 
   take-ends end.WriteFault takes is due = absurd takes
   take-ends end.TooLong takes is due = absurd takes
   take-ends (end.NotAgain fault) takes is due = absurd takes
-
-  pub take-same : (e : ServeEnd) → TakesOr old new at.coming coming at.source_faults faults (Err e) → e ≢ end.ReadFault → faults ≡ at.source_faults
-  take-same end.Done (same, consumes, empty, ends, is) unfailed = is
-  take-same end.NoFrame (same, consumes, some, ends, is) unfailed = is
-  take-same end.ReadFault takes unfailed = absurd (unfailed refl)
-  take-same end.WriteFault takes unfailed = absurd takes
-  take-same end.TooLong takes unfailed = absurd takes
-  take-same (end.NotAgain fault) takes unfailed = absurd takes

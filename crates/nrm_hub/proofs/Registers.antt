@@ -406,17 +406,3 @@ register-stands start w is comes =
       fits = s.fits;
       nobody = s.given.nobody;
     }
-
--- with what is said of the lines of each client, and of what was sent to it, it is all that is served
-pub with-clients : (start : ControlValue) (w : World) → RegisterStands start w
-    → ((k : ℕ) → IsFrontOf (lines_in (of_client k w.answered)) (whole_lines (w.came k)))
-    → ((k : ℕ) → IsFrontOf (w.sent k) (told_in (of_client k (take w.safe w.answered)))) → AreServed start w
-with-clients start w s lines sent = record {
-  run = s.run;
-  rows = s.rows;
-  lines = lines;
-  sent = λ k. record { within = s.within; kept = s.kept; sent = sent k };
-  once = s.once;
-  repeats = s.repeats;
-  owners = s.owners;
-}

@@ -1,8 +1,7 @@
 -- Rows of the journal: one for each line that may have changed something, with its reply.
-use Rattle.std.specs.Prelude.{ℕ, ◌+◌, List, [], ◌∷◌, ◌++◌, codes, decimal}
-use Rattle.nrm_text.specs.Words.{spaced}
+use Rattle.std.specs.Prelude.{ℕ, ◌+◌, List, [], ◌∷◌, ◌++◌, decimal}
+use Rattle.nrm_stream.specs.Commands.{command_text}
 use Rattle.nrm_stream.specs.declared.command.Command.{Command}
-use Rattle.nrm_stream.specs.declared.command.Command.TheVariants as command
 use Rattle.nrm_session.specs.Replies.{Reply, text_of}
 
 -- a desk by its name, the desk's own number of the line, the command and its reply
@@ -11,16 +10,6 @@ pub record Entry : Type 0 where
   pub sequence : ℕ
   pub command : Command
   pub reply : Reply
-
--- a command in words: the line that asks for it
-abbrev pub command_text : Command → List ℕ
-command_text (command.Book product party) = codes "book" ++ spaced product ++ spaced (decimal party)
-command_text (command.Cancel number) = codes "cancel" ++ spaced (decimal number)
-command_text (command.Reoptimise period) = codes "reoptimise" ++ spaced (decimal period)
-command_text (command.Leg name) = codes "leg" ++ spaced name
-command_text command.Hindsight = codes "hindsight"
-command_text command.Plan = codes "plan"
-command_text command.Bad = []
 
 -- a row: its number, the desk, the desk's own number, the line and the reply, with a tab between each two; the reply brings the line feed
 abbrev pub row_text : ℕ → List ℕ → ℕ → Command → Reply → List ℕ

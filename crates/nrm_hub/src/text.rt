@@ -10,7 +10,7 @@ ghost use Rattle.nrm_session.specs.Replies.{cancelled, no_leg, optimised, reply_
 ghost use Rattle.nrm_hub.specs.Inner.Told.{available_text, bound_text};
 ghost use Rattle.nrm_hub.specs.Lines.{at_line, available_line};
 ghost use Rattle.nrm_hub.specs.Register.{is_of_row};
-ghost use Rattle.nrm_hub.specs.Rows.{command_text, row_text};
+ghost use Rattle.nrm_hub.specs.Rows.{row_text};
 
 use nrm_account::largest_party;
 use nrm_control::{Answer, Controller};
@@ -24,37 +24,6 @@ pub(crate) const ROW_ROOM: usize = 192;
 
 /// A text of at most so many bytes.
 pub(crate) type RowText = Text<ROW_ROOM>;
-
-// Appends a command in words.
-#[tactic(auto, using(nrm_text::proofs::Decimals::short_decimal))]
-fn push_command(line: &mut RowText, command: &Command)
-    requires { length line.old ≤ 60 }
-    ensures text { line.new ≡ line.old ++ command_text command.now }
-    ensures length { length line.new ≤ length line.old + 38 }
-{
-    match command {
-        Command::Book { product, party } => {
-            line.push_bytes(b"book ");
-            line.push_name(product);
-            line.push_spaced(u64::from(*party));
-        }
-        Command::Cancel { number } => {
-            line.push_bytes(b"cancel");
-            line.push_spaced(*number);
-        }
-        Command::Reoptimise { period } => {
-            line.push_bytes(b"reoptimise");
-            line.push_spaced(u64::from(*period));
-        }
-        Command::Leg { name } => {
-            line.push_bytes(b"leg ");
-            line.push_name(name);
-        }
-        Command::Hindsight => line.push_bytes(b"hindsight"),
-        Command::Plan => line.push_bytes(b"plan"),
-        Command::Bad => {}
-    }
-}
 
 // Appends a word and two numbers.
 #[tactic(auto, using(nrm_text::proofs::Decimals::short_decimal))]
@@ -154,7 +123,7 @@ pub(crate) fn row_line(
     line.push_bytes(b"\t");
     line.push_u64(sequence);
     line.push_bytes(b"\t");
-    push_command(&mut line, command);
+    command.push_to(&mut line);
     line.push_bytes(b"\t");
     push_reply(&mut line, net, reply);
     line

@@ -43,7 +43,7 @@ fn status_of<S: Beginning>(rt: &HostRuntime) -> io::Result<KeptStatus> {
     let words = words_given(rt)?;
     let mut keeper = FileKeeper::<S>::new(rt, store_in(&words));
     let status = answered(rt, &words, &mut keeper);
-    let _closed = keeper.close();
+    let _closed = keeper.close(rt.alloc());
     status
 }
 

@@ -46,10 +46,6 @@ module _ (control : ControlValue) (name : List ℕ) (party j : ℕ) (rows rows' 
       let gives = rw found at step in
       gives.1 ∙ ap (after_answer s j party) (answer-same control s j party stands ∙ sym is)
 
-  pub refused-ahead : ((s : SeatState) → (after_answer s j party given).bookings ≡ s.bookings) → rows' ≡ rows → KeepsAhead control (command.Book name party) rows rows'
-  refused-ahead leaves same s s' reply stands step are =
-      stays control rows rows' s s' same (ap (λ (s : SeatState). s.bookings) (requested s s' reply stands step) ∙ leaves s) are
-
   pub sold-ahead : (number : ℕ) → given ≡ answer.Sold number → IsControl control → Adds (record { number = number; product = name; party = party }) rows rows' → KeepsAhead control (command.Book name party) rows rows'
   sold-ahead number sells kept adds s s' reply stands step are =
       let next : number ≡ control.next = sold-next control.net control.plan control.bookings control.next party j number (sym sells ∙ is) in
@@ -63,17 +59,8 @@ module _ (control : ControlValue) (name : List ℕ) (party j : ℕ) (rows rows' 
       ap (λ (s : SeatState). s.bookings) (requested s s' reply stands step ∙ ap (after_answer s j party) sells) ∙ ap (λ (bookings : List Booking). bookings ++ b ∷ []) stands.bookings in
       grown ∙ ap (λ (r : KeptRow). Some (rows_of control.net control.bookings ++ r ∷ [])) row ∙ ap Some (sym (rows-more control.net control.bookings b)) ∙ ap (λ (bookings : List Booking). Some (rows_of control.net bookings)) (sym after)
 
-  -- and it would change the book
-  pub sold-changes : (number : ℕ) → given ≡ answer.Sold number → (s : SeatState) → Represents control s → ChangesBook control.net s (command.Book name party)
-  sold-changes number sells s stands =
-      let next : number ≡ control.next = sold-next control.net control.plan control.bookings control.next party j number (sym sells ∙ is) in
-      (j, found, answer-same control s j party stands ∙ sym is ∙ sells ∙ ap answer.Sold (next ∙ sym stands.next))
-
 -- ---- cancellations
 module _ (control : ControlValue) (number : ℕ) (rows rows' : Option (List KeptRow)) (b : Booking) (live : booking_numbered control.bookings number ≡ Some b) where
-  pub live-changes : (s : SeatState) → Represents control s → ChangesBook control.net s (command.Cancel number)
-  live-changes s stands = (b, ap (λ (bookings : List Booking). booking_numbered bookings number) stands.bookings ∙ live)
-
   pub live-ahead : Drops number rows rows' → KeepsAhead control (command.Cancel number) rows rows'
   live-ahead drops s s' reply stands step are =
       let here : booking_numbered s.bookings number ≡ Some b = ap (λ (bookings : List Booking). booking_numbered bookings number) stands.bookings ∙ live in

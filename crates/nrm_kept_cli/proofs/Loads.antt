@@ -91,12 +91,6 @@ module _ (old now : ControlValue) (row : KeptRow) (rest all : List KeptRow) (so_
         low = λ was. omega (arith, low, ap (λ (control : ControlValue). control.next) changed);
       }
 
-  -- a row that gives none
-  pub loading-refused : None ≡ booking_of now.net (loaded_in now) row → load_behind old.net (loaded_in old) all ≡ Err row.number
-  loading-refused none =
-      let here : booking_of old.net (loaded_in now) row ≡ None = ap (λ (net : NetworkValue). booking_of net (loaded_in now) row) (sym so_far.network) ∙ sym none in
-      so_far.behind ∙ rw here refl
-
 -- the legs of a product, as the book has them
 legs-same : (net : NetworkValue) (j : ℕ) → (product_of net j).legs ≡ legs_of (inventory_of net) j
 legs-same net j = by (slice_get net.products j) ∙ sym (ap (λ (o : Option (List ℕ)). unwrap_or o []) (slice_get-map (λ (p : Product). p.legs) net.products j))

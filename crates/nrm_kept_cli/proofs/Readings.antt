@@ -44,12 +44,6 @@ module _ {P : Type 0} (keeps : Ghosts P) where
     changed-read Does Is (Ok x) then told shows =
         either-read Is (then (keeps.rows old) (keeps.rows new) told) (λ trusted. let s = shows trusted in (s.0, then (keeps.shown old) (keeps.shown new) s.1))
 
-    -- and one that failed
-    pub unchanged-read : {T E : Type 0} (Shows : Type 0) (r : Result T E) → OnErr r (keeps.rows new ≡ keeps.rows old)
-        → (keeps.trusted new → keeps.trusted old × Shows × OnErr r (keeps.shown new ≡ keeps.shown old)) → OnErr r (HoweverRead keeps Same old new)
-    unchanged-read Shows (Ok x) told shows = tt
-    unchanged-read Shows (Err e) told shows = either-read Same told (λ trusted. let s = shows trusted in (s.0, s.2))
-
     -- a listing
     pub listed-read : (list : List KeptRow) → Lists list (keeps.rows new) → Keeps (keeps.rows old) (keeps.rows new)
         → (keeps.trusted new → keeps.trusted old × (keeps.shown new ≡ keeps.shown old) × Lists list (keeps.shown new))
