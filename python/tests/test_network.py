@@ -67,7 +67,7 @@ class Networks(PlaceTest):
     def test_a_file_that_is_refused_is_told_with_what_explains_it(self) -> None:
         for text in NO_NETWORKS:
             path = self.file("no.csv", text)
-            self.stopped("lp", path, says=f"{path} is refused: `nrm-tools explain {path}` tells which rows")
+            self.stopped("lp", path, says=f"{path} is refused: `nrm-tools explain {path}` says which rows")
             told = self.ran("explain", path)
             self.assertEqual((told.status, told.out.partition("\n")[0] + "\n"),
                              (3, self.nrm("print", path, status=3)), repr(text))

@@ -94,12 +94,12 @@ class Refusing(WithinTest):
                               f"sed 's/^plan/value 1\\/1/; {leg}; s|^hindsight$|{line}|; s/^book.*/ok 1/'",
                               "replies don't fit")
             for line in (f"value A {it}/1", f"protect A {it}", f"value A 1/{it}"):
-                self.answered("optimum", [network, "A"], f"echo class P 5; echo '{line}'", "is no answer to it")
+                self.answered("optimum", [network, "A"], f"echo class P 5; echo '{line}'", "isn't an answer to it")
             for line in (f"cuts A {it}", f"centres A {it}", f"cost A {it}"):
                 lines = [line if line.startswith(one.split()[0]) else one
                          for one in ("cuts A", "centres A 5", "cost A 0")]
                 self.answered("thresholds", [network, "2"], "".join(f"echo '{one}'\n" for one in lines),
-                              "is no answer to it")
+                              "isn't an answer to it")
         zero = f"sed 's/^plan/value 1\\/0/; {leg}; s|^hindsight$|hindsight 1/0 revenue 0 withheld 0|'"
         self.answered("season", [network, stream], zero, "replies don't fit")
 

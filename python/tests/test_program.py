@@ -71,7 +71,7 @@ class Finding(PlaceTest):
         self.assertEqual((out, status), ("", 1))
         self.want_in(err, f"nrm-tools thresholds: {self.top} has no built program that fits its sources, there is no "
                           f"other `nrm` on the path, and nothing is built here: `{self.top}/nrm --build` proves and "
-                          "builds it, and --program says which to run\n")
+                          "builds it, and --program names the one to run\n")
 
     def test_each_command_that_runs_the_program_builds_none(self) -> None:
         """In a checkout without a program, and where that is asked for by its name on the path."""
@@ -91,7 +91,7 @@ class Finding(PlaceTest):
         self.executable(self.built, ANSWERS.format("built"))
         self.want_in(self.asked(SYSTEM, "--program", script)[1], "has no built program that fits its sources")
         self.executable(kept, f"#!/bin/sh\ntouch '{self.folder}/kept'\n")
-        self.want_in(self.asked(SYSTEM, "--program", script)[1], "wrote is no answer to it")
+        self.want_in(self.asked(SYSTEM, "--program", script)[1], "wrote isn't an answer to it")
         self.assertTrue((self.folder / "kept").exists())
 
     def test_beside_a_release_its_own_program_is_taken(self) -> None:
@@ -103,7 +103,7 @@ class Finding(PlaceTest):
         (self.top / "nrm").unlink()
         self.assertEqual(self.version(f"{self.folder}/bin:{SYSTEM}"), other)
         self.want_in(self.asked(SYSTEM)[1],
-                     "nrm-tools thresholds: there is no `nrm` on the path; --program says which to run")
+                     "nrm-tools thresholds: there is no `nrm` on the path; --program names the one to run")
 
     def test_a_script_that_would_build_is_passed_over(self) -> None:
         """Where the folder of a checkout is on the path, or its script is named."""
@@ -113,7 +113,7 @@ class Finding(PlaceTest):
         for words in (["--program", str(self.top / "nrm")], ["--program", "checkout/nrm"]):
             self.want_in(self.asked(f"{self.folder}/bin:{SYSTEM}", *words)[1], "has no built program")
         self.executable(self.built, ANSWERS.format("built"))
-        self.want_in(self.asked(SYSTEM, "--program", "checkout/nrm")[1], "wrote is no answer to it")
+        self.want_in(self.asked(SYSTEM, "--program", "checkout/nrm")[1], "wrote isn't an answer to it")
 
     def test_what_isnt_there_is_told(self) -> None:
         self.assertEqual(self.asked(SYSTEM, "--program", "none/nrm")[1:], ("nrm-tools thresholds: none/nrm: No such "
@@ -142,7 +142,7 @@ class Runs(PlaceTest):
     def test_a_run_that_fails_is_told_with_its_status_and_its_line(self) -> None:
         refused = self.file("refused.csv", "periods,1,1\nleg,a,1\n")
         sentence = (f"`run bid {refused}` ended with status 3: refused row 2 why 5 name; "
-                    "`nrm-tools explain` tells every row of a network")
+                    "`nrm-tools explain` lists every row of a network")
         for run in (lambda: self.program.replies("bid", refused, b""),
                     lambda: self.program.replies_of_a_line("bid", refused, b"")):
             with self.assertRaises(Stop) as stop:

@@ -42,7 +42,7 @@ class Outputs(PlaceTest):
         for target in ("another", "none"):
             link = self.folder / f"to-{target}"
             link.symlink_to(self.folder / target)
-            with self.assertRaisesRegex(Stop, "is a link, which isn't followed"), Output() as output:
+            with self.assertRaisesRegex(Stop, "is a link, and links aren't followed"), Output() as output:
                 output.add(str(link), "new")
         late = self.folder / "late"
         with Output() as output:
@@ -61,7 +61,7 @@ class Outputs(PlaceTest):
         self.assertTrue(stat.S_ISCHR(os.stat(os.devnull).st_mode))
 
     def test_two_files_of_one_place_are_refused(self) -> None:
-        with self.assertRaisesRegex(Stop, "is to be written twice"), Output() as output:
+        with self.assertRaisesRegex(Stop, "would be written twice"), Output() as output:
             output.add(str(self.folder / "one"), "a")
             output.add(str(self.folder / "one"), "b")
         self.assertEqual(os.listdir(self.folder), [])
@@ -97,7 +97,7 @@ class Refused(PlaceTest):
         done = self.ran("log", *words, "--names", "none/names.csv")
         self.assertEqual((done.out, done.status, self.there()), ("", 1, before), done.err)
         self.want_in(done.err, "none/names.csv: No such file or directory")
-        self.stopped("log", *words, "--names", "stream.txt", says="stream.txt is to be written twice")
+        self.stopped("log", *words, "--names", "stream.txt", says="stream.txt would be written twice")
         self.assertEqual(self.there(), before)
 
     def test_where_the_network_cant_be_written(self) -> None:

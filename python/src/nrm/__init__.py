@@ -53,4 +53,4 @@ def make_folder(path: str) -> None:
     try:
         os.makedirs(path, exist_ok=True)
     except FileExistsError:
-        raise Stop(f"{said(path)} is a file, and a folder is wanted")
+        raise Stop(f"{said(path)} is a file, not a folder")

@@ -16,8 +16,8 @@ from nrm.program import Program
 USAGE = f"usage: {TOOLS} NAME WORD..."
 MANUAL = f"""{USAGE}
 
-`{TOOLS} NAME --help` tells all of a command, and `{TOOLS} --version` the version, and the program that the commands run
-with its checksum. The commands:
+`{TOOLS} NAME --help` explains a command. `{TOOLS} --version` prints the version, and the program that the commands run
+with its checksum. The commands are:
 """
 
 
@@ -48,7 +48,7 @@ def main(words: Sequence[str] | None = None) -> int:
         return status_of(name, version if name == "--version" else help_of_all, rest)
     if name not in NAMED:
         wrong = f"there is no command {said(name)}" if name else "no command is named"
-        print(f"{USAGE}\n{TOOLS}: {wrong}; --help lists all", file=sys.stderr)
+        print(f"{USAGE}\n{TOOLS}: {wrong}; --help lists the commands", file=sys.stderr)
         return 2
     run = importlib.import_module(NAMED[name]).run
     return int(run(rest) if name in ALONE else status_of(name, run, rest))

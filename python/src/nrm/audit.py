@@ -2,22 +2,22 @@
 
     nrm-tools audit NETWORK CERTIFICATE [--opened OPENED]
 
-The files are those of docs/network-file.md and docs/certificate.md, and the network file is one that `nrm print`
-accepts. Of each condition it is told whether it holds, then what the allocation gains and what the prices cost, in a
-history on the mean. What a leg can give are its authorised seats, which in a file of version 1 are its seats. The last
+The files are those of docs/network-file.md and docs/certificate.md, and the network file must be one that `nrm print`
+accepts. For each condition the output says whether it holds; then it has what the allocation gains and what the prices
+cost, in a history on average. A leg can give its authorised seats, which in a file of version 1 are its seats. The last
 line and the status are those of `nrm check`: `optimal` and 0, the first condition that fails and 1, or why a file is
-refused and 3. Nothing of the program or of its tools is used, all numbers are exact fractions, and all are means of a
+refused and 3. It uses nothing of the program or of its tools. All numbers are exact fractions, and all are means of a
 history, where the program counts in whole numbers over all histories.
 
-CERTIFICATE may be what `nrm plan davn` writes, or the line `plan` under davn: if there is a line `nest` or `protect`,
-which `nrm check` refuses, then there must be one for each leg and product, and conditions 8 to 10 are told too. They
-are worked out anew, as docs/nesting.md says, from the network and the bid prices in the file. What differs is told with
-what is printed and what it should be. The plan of a line `reoptimise` is that of a network with the seats left for the
-authorised ones, and there OPENED is the network that the session was opened with: a leg protects no more than its
-authorised seats in OPENED.
+CERTIFICATE may be what `nrm plan davn` writes, or the reply to the line `plan` under davn: if it has a line `nest` or
+`protect`, which `nrm check` refuses, it must have one for each leg and product, and conditions 8 to 10 are checked too.
+They are computed again, as docs/nesting.md says, from the network and the bid prices in the file. Of each difference
+the output says what is printed and what it should be. The plan of a line `reoptimise` is that of a network with the
+seats left as the authorised ones. For it OPENED is the network that the session was opened with: a leg protects no more
+than its authorised seats in OPENED.
 
-This file shares nothing with the other tools, on purpose: so what it finds doesn't stand on what they read, and it can
-be read, copied and run by itself, as `python3 audit.py NETWORK CERTIFICATE`.
+This file shares nothing with the other tools, on purpose: so its findings don't depend on what they read, and it can be
+read, copied and run by itself, as `python3 audit.py NETWORK CERTIFICATE`.
 """
 from __future__ import annotations
 

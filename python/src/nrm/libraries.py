@@ -32,11 +32,12 @@ def lacks(libraries: Sequence[str]) -> str:
     if is_debians():
         advice = f"`apt-get install {' '.join(packages)}` installs what is missing"
     else:
-        advice = (f"Debian's {' and '.join(packages)} {'are' if len(packages) > 1 else 'is'} for {DEBIANS_PYTHON}: "
+        advice = (f"Debian's {' and '.join(packages)} {'are' if len(packages) > 1 else 'is'} for {DEBIANS_PYTHON}: use "
                   f"NRM_PYTHON={DEBIANS_PYTHON} nrm-tools ..")
-    return f"{sys.executable}, the Python that was asked, has no {names}; {advice}"
+    return f"{sys.executable}, the Python that runs this, has no {names}; {advice}"
 
 
 def missing(libraries: Sequence[str]) -> str:
     """A sentence that says what isn't made, since this Python lacks some libraries."""
-    return f"no {' and no '.join(NEEDED_FOR[it] for it in libraries)}, since {lacks(libraries)}"
+    verb = "is" if libraries[0] == "jinja2" else "are"
+    return f"there {verb} no {' and no '.join(NEEDED_FOR[it] for it in libraries)}, since {lacks(libraries)}"

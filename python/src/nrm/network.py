@@ -182,7 +182,7 @@ class Network:
         try:
             return cls.of(rows_of(bytes_in(path)))
         except (ValueError, LookupError):
-            raise Stop(f"{said(path)} is refused: `nrm-tools explain {said(path)}` tells which rows, why, and how to "
+            raise Stop(f"{said(path)} is refused: `nrm-tools explain {said(path)}` says which rows, why, and how to "
                        "mend them")
 
     @classmethod
@@ -193,7 +193,7 @@ class Network:
             kind, name, *rest = row.fields
             reading.take(kind, name, rest)
         if not (reading.histories and reading.legs and reading.products):
-            raise ValueError("a network has histories, legs and products")
+            raise ValueError("a network must have histories, legs and products")
         return cls(reading.version, reading.histories, reading.periods, reading.legs, reading.products)
 
     def rows(self, legs: Iterable[str] | None = None, products: Sequence[str] | None = None) -> Iterator[list[object]]:
@@ -241,7 +241,7 @@ class Reading:
             raise ValueError("the row of periods comes first, and once")
         if kind == "periods":
             if rest[1:] not in ([], ["2"]):
-                raise ValueError("a version is 2, or isn't said")
+                raise ValueError("a version must be 2, or be left out")
             self.histories, self.periods, self.version = whole(name), whole(rest[0]), len(rest)
         elif not NAME.fullmatch(name):
             raise ValueError(name)

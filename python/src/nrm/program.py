@@ -24,7 +24,7 @@ LINES_AT_ONCE = 1000  # that are sent before their replies are read: they and th
 REFUSED = 3
 INPUT_FAULT = 4
 DOORS = ("nrm", "nrm_kept", "nrm_why", "nrm_desks")  # the scripts at the top of a checkout, which may build
-WHICH = "--program says which to run"
+WHICH = "--program names the one to run"
 Told = TypeVar("Told")
 
 
@@ -136,7 +136,7 @@ class Program:
         try:
             return read(lines)
         except (ValueError, LookupError):
-            raise Stop(f"what `{' '.join(words)}` wrote is no answer to it: is that another program?")
+            raise Stop(f"what `{' '.join(words)}` wrote isn't an answer to it: is it another program?")
 
     def replies(self, mode: str, network: str, stream: bytes) -> list[bytes]:
         """The replies to the lines of a stream, one each, by a run on the network file at a path."""
@@ -167,7 +167,7 @@ class Program:
 
 def ended(words: str, status: int, told: str) -> Stop:
     """A Stop for a run with some words that ended with a status, and with what it told."""
-    advice = "; `nrm-tools explain` tells every row of a network file that is refused" if status == REFUSED else ""
+    advice = "; `nrm-tools explain` lists every row of a network file that is refused" if status == REFUSED else ""
     return Stop(f"`{words}` ended with status {status}{f': {told}' if told else ''}{advice}")
 
 

@@ -16,7 +16,7 @@ MOST_SHOWN = 200  # of what is no answer
 
 
 class NoAnswer(ValueError):
-    """What came is no answer to what was asked: is that another program?"""
+    """What came is no answer to what was asked: is it another program?"""
 
 
 # Which reply belongs to which line

@@ -45,7 +45,7 @@ class Output:
     def see(self, path: str) -> bool:
         """Sees that a file can be put at a path, before there is something to put; whether a device is there."""
         if path in self.beside or path in self.through:
-            raise Stop(f"{said(path)} is to be written twice: name another file for one of the two")
+            raise Stop(f"{said(path)} would be written twice: name another file for one of the two")
         return is_through(path)
 
     def __exit__(self, kind: type[BaseException] | None, _: BaseException | None, __: TracebackType | None) -> None:
@@ -77,10 +77,11 @@ def is_through(path: str) -> bool:
     except OSError:
         kind, is_link = 0, os.path.islink(path)
     if stat.S_ISDIR(kind):
-        raise Stop(f"{said(path)} is a folder, and a file is to be written there")
+        raise Stop(f"{said(path)} is a folder, not a file to write")
     is_device = kind != 0 and not stat.S_ISREG(kind)
     if is_link and not is_device:
-        raise Stop(f"{said(path)} is a link, which isn't followed: name the file that it leads to, or remove the link")
+        raise Stop(f"{said(path)} is a link, and links aren't followed: name the file that it leads to, or remove the "
+                   f"link")
     return is_device
 
 

@@ -182,7 +182,7 @@ class Pages(JournalTest):
 
     def commands_do_it(self, told: str, answer: str) -> None:
         """Runs the commands of a page: the account has an answer, and the certificate is optimal twice."""
-        [commands] = re.findall(r"\nThe same with commands:\n\n(.*?)\n\n", told, re.DOTALL)
+        [commands] = re.findall(r"\nThese commands do the same:\n\n(.*?)\n\n", told, re.DOTALL)
         done = subprocess.run(["bash", "-e", "-o", "pipefail", "-c", commands], capture_output=True, text=True,
                               env={**os.environ, "PATH": f"{self.folder / 'programs'}:{os.environ['PATH']}"})
         self.assertEqual((done.returncode, done.stderr), (0, ""), done.stdout)
@@ -237,8 +237,8 @@ class Changed(JournalTest):
                               (8, "ok 9")):
             right = replies[number - 1]
             self.change(CHANGE.format(f"reply = '{reply}'", number))
-            told = self.faulty(number, f"Not as it should be: the reply to line {number} is `{reply}` in the journal, "
-                               f"and `{right}` in the account, by `nrm run` and by the rule as it is worked out")
+            told = self.faulty(number, f"Something is wrong: the reply to line {number} is `{reply}` in the journal, "
+                               f"and `{right}` in the account, by `nrm run` and by the rule as it is computed")
             self.want_in(told, f"FAILS: the journal has the reply of the account: {reply}\n")
             self.change(CHANGE.format(f"reply = '{right}'", number))
             self.page(number)
@@ -246,7 +246,7 @@ class Changed(JournalTest):
     def test_the_reply_of_a_line_before(self) -> None:
         self.journal()
         self.change(CHANGE.format("reply = 'no AB'", 2), CHANGE.format("reply = 'no BC'", 3))
-        told = self.faulty(5, "Not as it should be: the reply to line 2 is `no AB` in the journal, and `ok 1` by `nrm "
+        told = self.faulty(5, "Something is wrong: the reply to line 2 is `no AB` in the journal, and `ok 1` by `nrm "
                               "run`, so what stood before line 5 can't be relied on.")
         self.want_in(told, "FAILS: line 2 before it has the reply no AB in the journal, and `nrm run` answers it: ok 1")
         self.page(1)
@@ -257,7 +257,7 @@ class Changed(JournalTest):
                             ("", "and `bad`"), ("book", "and `bad`"), ("book LOC 1\r\r", "and `bad`"),
                             ("é", "and `bad`")):
             self.change(CHANGE.format(f"line = '{line}'", 3))
-            self.faulty(3, f"Not as it should be: the reply to line 3 is `ok 2` in the journal, {reply}")
+            self.faulty(3, f"Something is wrong: the reply to line 3 is `ok 2` in the journal, {reply}")
         self.change(CHANGE.format("line = 'book LOC 1' || char(10) || 'plan'", 3))
         self.stops("line 3 of hub has a line feed in it", "journal", "hub", 4)
         self.change(CHANGE.format("line = x'626f6f6b204c4f432031'", 3))
@@ -267,7 +267,7 @@ class Changed(JournalTest):
         self.journal()
         self.change("DELETE FROM line WHERE number = 3")
         for number in (3, 4, 11):
-            self.stops("hub has 11 lines, but line 3 isn't among them: somebody has taken it out", "journal", "hub",
+            self.stops("hub has 11 lines, but line 3 isn't among them: somebody has removed it", "journal", "hub",
                        number)
         self.page(2)
 
@@ -288,7 +288,7 @@ class Networks(JournalTest):
                 open_network(connection, f"new-{at:02}", "bid", b"", "p")
         self.stops("new-00 has no lines yet, and no line 1", "journal", "new-00", 1)
         self.stops("it has hub, new-00, new-01,", "journal", "bub", 1)
-        self.stops("new-18 and 11 more, which `nrm-tools journal look` tells\n", "journal", "bub", 1)
+        self.stops("new-18 and 11 more, which `nrm-tools journal look` lists\n", "journal", "bub", 1)
         self.stops("no line of new-00 sold a booking 1: none was sold", "journal", "new-00", "--booking", 1)
 
     def test_what_is_no_journal(self) -> None:
@@ -296,12 +296,12 @@ class Networks(JournalTest):
             connection.execute("CREATE TABLE other (it)")
         self.file("empty", "")
         for path in (BID, "store", "empty"):
-            self.stops("is no journal", path, "hub", 1)
+            self.stops("isn't a journal", path, "hub", 1)
         self.stops("a line of a plain stream has four, NETWORK MODE STREAM NUMBER", BID, self.file("stream", "plan"), 1)
         self.stops("none: ", "none", "hub", 1)
-        self.stops(f"{self.folder} is no plain file", self.folder, "hub", 1)
+        self.stops(f"{self.folder} isn't a plain file", self.folder, "hub", 1)
         self.journal()
-        self.stops("journal is an SQLite file, and no network file", "journal", "bid", self.file("stream", "plan"), 1)
+        self.stops("journal is an SQLite file, not a network file", "journal", "bid", self.file("stream", "plan"), 1)
 
     def test_the_forms_of_words(self) -> None:
         self.journal()
@@ -345,8 +345,8 @@ class Networks(JournalTest):
         wrong = self.script("programs/wrong", REFERENCE, " | sed 's/answer ok 3/answer ok 4/'")
         done = self.why(5, account=[wrong])
         self.assertEqual((done.status, done.out.split("\n")[0]), (
-            1, "Not as it should be: the reply to line 5 is `ok 3` in the journal, by `nrm run` and by the rule as "
-               "it is worked out here, and `ok 4` in the account."))
+            1, "Something is wrong: the reply to line 5 is `ok 3` in the journal, by `nrm run` and by the rule as "
+               "it is computed here, and `ok 4` in the account."))
 
 
 if __name__ == "__main__":

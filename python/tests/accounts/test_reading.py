@@ -1,4 +1,4 @@
-"""Accounts as text, read: each kind of line, and what is no account."""
+"""Accounts as text, read: each kind of line, and what isn't an account."""
 from __future__ import annotations
 
 import unittest
@@ -74,6 +74,7 @@ class Accounts(unittest.TestCase):
                          Optimisation((("A", 2), ("B", 0))))
         for text, asked, answer in (("line 5 leg A\n", "leg A", None), ("line 6 plan\n", "plan", None),
                                     ("line 7 bad\nanswer bad\n", "bad", "bad"),
+                                    ("line 9 leg X\nanswer unknown\n", "leg X", "unknown"),
                                     ("line 8 book X 1\nanswer unknown\n", "book X 1", "unknown")):
             self.assertEqual(account_of(text), Account(int(text.split()[1]), asked, None, answer, text))
 
@@ -84,7 +85,8 @@ class Accounts(unittest.TestCase):
                      BELOW.replace("sum 1121/2", "sum 1121"), BELOW.replace("sum ", "summe "),
                      BELOW.replace("1121/2\nsum", "1121/0\nsum"), CANCELLED.replace("back", "gone"),
                      PROTECTED.replace("demand A", "demand B"), PROTECTED.replace("nest A", "nest B"),
-                     PROTECTED.replace("demand A 6 6 9 7\n", ""), "line 5 leg A\nanswer x\n", "line 7 bad\n",
+                     PROTECTED.replace("demand A 6 6 9 7\n", ""), "line 5 leg A\nanswer x\n", "line 6 plan\nanswer unknown\n",
+                     "line 7 bad\n",
                      SHORT.replace("sold 41", "sold " + "4" * 41), "line 1 leg A\nleft A 1\n\n"):
             with self.assertRaises(NoAnswer, msg=text):
                 account_of(text)

@@ -81,7 +81,7 @@ class Sentences(WhyTest):
                                (14, "Nothing was cancelled: no booking 99 stood."),
                                (15, "No plan was made: the network has no period 9."),
                                (16, "The line asked for a text, and changed nothing: leg AB."),
-                               (17, "The line is none that is known, and changed nothing."),
+                               (17, "The line isn't one that is known, and changed nothing."),
                                (19, "The line asked for a text, and changed nothing: plan.")):
             self.assertEqual(self.sentence(NESTS, "davn", NEST_LINES, number), wanted)
         self.assertTrue(self.sentence(NESTS, "davn", NEST_LINES, 18).startswith("The line hindsight was answered: "))
@@ -143,7 +143,7 @@ class Faults(WhyTest):
                 (BID, "bid", BID_LINES, 8, "worth 120", "worth 121")):
             done = self.why(network, mode, lines, number, account=self.changed(old, new))
             self.assertEqual(done.status, 1, f"{old} as {new}: {done.out}")
-            self.want_in(done.out, "the account isn't to be relied on")
+            self.want_in(done.out, "Don't rely on this account")
             customer = self.why(network, mode, lines, number, "--customer", account=self.changed(old, new))
             self.assertEqual((customer.status, customer.out), (1, ""), "no sentence of an account that fails")
 
@@ -158,7 +158,7 @@ class Faults(WhyTest):
                 self.why(BID, "bid", BID_LINES, number)
 
     def test_another_program(self) -> None:
-        for words, says in ((["/bin/echo"], "is no account"), (["/bin/false"], "ended with status 1"),
+        for words, says in ((["/bin/echo"], "isn't an account"), (["/bin/false"], "ended with status 1"),
                             (["none-there"], "there is no program none-there")):
             done = self.why(BID, "bid", BID_LINES, 1, account=words)
             self.assertEqual((done.status, done.out), (1, ""))

@@ -22,8 +22,8 @@ OF_NRM = {"none": 3, "folder": 9, "refused": 3}
 OWN_STATUSES = {"audit": OF_NRM, "explain": OF_NRM}  # those of the program
 SOLD = ["--departs", "departure", "--booked", "booked on", "--product", "product", "--seats", "seats"]
 ACCOUNTS = [sys.executable, str(TOP / "tests" / "reference.py"), "why"]  # in the place of `nrm_why`
-SERVE = {"serve", "journal", "status", "token", "web"}  # these have tests of their own: of networks they have none
-TOLD_ON_THE_WAY = ("nrm-tools season: no pictures", "nrm-tools log: ", "nrm-tools simulate: ", "nrm-tools asked: ",
+SERVE = {"serve", "journal", "status", "token", "web", "completion"}  # these have tests of their own: of networks they have none
+TOLD_ON_THE_WAY = ("nrm-tools season: there are no pictures", "nrm-tools log: ", "nrm-tools simulate: ", "nrm-tools asked: ",
                    "nrm-tools demand: ", "nrm-tools authorise: ", "nrm-tools averaged: ")
 OF_DASK = ("simulate", "authorise")
 OF_LOGS = {"log", "demand"}  # their first file is no network
@@ -127,8 +127,8 @@ class Running(PlaceTest):
             self.assertEqual(self.ran("replay", network, *program).out, "")  # and no heads of a table
         for script in ("", "echo ok 1", "echo class P 5", "echo cost A 0", "echo value A 1/0"):
             program = ["--program", "sh", self.file("script", script)]
-            self.stopped("thresholds", network, 2, *program, says=f"what `cuts {network} A 2` wrote is no answer to it")
-            self.stopped("optimum", network, "A", *program, says=f"what `dp {network} A` wrote is no answer to it")
+            self.stopped("thresholds", network, 2, *program, says=f"what `cuts {network} A 2` wrote isn't an answer to it")
+            self.stopped("optimum", network, "A", *program, says=f"what `dp {network} A` wrote isn't an answer to it")
         program = ["--program", "sh", self.file("script", "echo no leg; exit 10")]
         self.stopped("thresholds", network, 2, *program, says=f"`cuts {network} A 2` ended with status 10: no leg\n")
 
@@ -137,12 +137,12 @@ class Running(PlaceTest):
         kept, other = self.file("kept", ""), self.file("other", "no A\n")
         refused = self.file("refused.csv", "periods,1,1\nleg,a,1\n")
         for words, sentence in (
-                ([refused, "bid", stream, kept], "status 3: refused row 2 why 5 name; `nrm-tools explain` tells"),
+                ([refused, "bid", stream, kept], "status 3: refused row 2 why 5 name; `nrm-tools explain` lists"),
                 ([self.folder, "bid", stream, kept], "ended with status 9: file fault"),
                 ([network, "bid", "/proc/self/mem", kept], "/proc/self/mem: Input/output error"),
                 ([network, "bid", stream, other], "line 1: 'no A\\n' was kept, and the program answers 'ok 1\\n'")):
             self.stopped("resume", *words, *self.with_program, says=sentence)
-        self.stopped("split", network, stream, says=f"{stream} is a file, and a folder is wanted")
+        self.stopped("split", network, stream, says=f"{stream} is a file, not a folder")
 
 
 class CommandLine(PlaceTest):

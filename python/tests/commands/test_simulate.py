@@ -24,7 +24,7 @@ class Mistakes(SimulateTest):
                 ([LOG, "--show", "0.9"], 2, "together"), ([LOG, "--parties", "0:1"], 2, "--parties"),
                 ([LOG, "--cancel", "2"], 2, "--cancel"), ([one, "--leave-out"], 1, "two"),
                 ([LOG, "--leave-out", "--demand", "poisson"], 2, "--leave-out"),
-                ([LOG, LOG], 1, "named twice"), ([LOG, "--out", one], 1, "is a file"),
+                ([LOG, LOG], 1, "have the same name"), ([LOG, "--out", one], 1, "is a file"),
                 ([LOG, *tls], 2, "cluster tls://ADDRESS"), ([LOG, *tcp, *tls], 2, "cluster tls://ADDRESS"),
                 ([LOG, *tcp], 1, "no Dask scheduler at tcp://127.0.0.1:9")):
             done = self.ran("simulate", *words, "--seasons", 1, *self.with_program, timeout=SECONDS)
@@ -35,7 +35,7 @@ class Mistakes(SimulateTest):
     def test_a_program_that_is_another_is_told(self) -> None:
         unlike = '%s "$@" | sed "s/^no .*/unknown/"' % " ".join(f"'{it}'" for it in self.program.words)
         for text, wanted in (('test "$1" = print || echo ok 1', "`run first` has no bound: ok 1"),
-                             (unlike, "`run first` answers requests otherwise than by")):
+                             (unlike, "`run first` answers requests with other replies than")):
             words = [SEASON, "--seasons", 1, "--workers", 1, "--program", "sh", self.file("other", text)]
             self.stopped("simulate", *words, timeout=SECONDS, says=f"nrm-tools simulate: {wanted}")
 
@@ -61,7 +61,7 @@ class Alone(SimulateTest):
         for it in LONG:
             words = ["sh", self.file("long", f"sed -u 's/^book.*/ok {it}/; s/^cancel.*/unknown/'")]
             why = batch_of(bytes_in(LOG), Settings(cancel=0.5), words, [1]).why
-            self.want_in(str(why), "answers to a request is no number of a booking")
+            self.want_in(str(why), "answers to a request isn't the number of a booking")
 
     def test_it_says_where_there_is_no_dask(self) -> None:
         """As under a Python that sees no packages, beside no checkout: so it goes on under no other."""

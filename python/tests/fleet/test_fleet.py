@@ -108,8 +108,8 @@ class Fleets(FleetTest):
         second = self.serve("one")
         self.assertEqual(second.answer(FIRST), b"at 1\nok 1\n")
         first.end(REPLACED, None)
-        self.want_in(first.told(), "event=lost why=\"another start of a server has the name one now, at "
-                     f"127.0.0.1:{second.port}: to begin this one again, give it a name of its own, or end the other\"")
+        self.want_in(first.told(), "event=lost why=\"another server was started with the name one, at "
+                     f"127.0.0.1:{second.port}: to start this one again, give it a name of its own, or stop the other\"")
         self.assertEqual(second.talk(FIRST), b"at 1\nok 1\n")
 
     def test_two_that_are_begun_again_take_a_name_once(self) -> None:

@@ -87,7 +87,7 @@ class Feeds(unittest.TestCase):
         """Few rows, or those that have come since the time before; not one that is still given what was there then."""
         asked: list[Callable[[object], None]] = []
         asker = SimpleNamespace(ask=lambda work, then: asked.append(then))
-        feed = Feed(asker, 1, None, lambda: None, None, lambda: None)
+        feed = Feed(asker, 1, None, lambda: None, None, lambda fault: None)
         for there, given, keeps_up in ((5000, 3000, False), (9000, 4000, False), (9000, 8500, True),
                                        (20_000, 9000, True), (20_000, 10_000, False), (20_000, 20_000, True)):
             feed.more(there)
@@ -100,10 +100,11 @@ class Feeds(unittest.TestCase):
         asked: list[Callable[[object], None]] = []
         spoilt: list[str] = []
         asker = SimpleNamespace(ask=lambda work, then: asked.append(then))
-        feed = Feed(asker, 1, None, lambda: None, None, lambda: spoilt.append("spoilt"))
+        feed = Feed(asker, 1, None, lambda: None, None, lambda fault: spoilt.append(str(fault)))
         feed.more(20)
         asked.pop()(("past", 10, [b"rows\n"]))
         self.assertEqual((next(feed), feed.histories), (b"rows\n", {"past"}))
         feed.history = "past"
         asked.pop()(("other", 20, [b"more\n"]))
-        self.assertEqual((spoilt, next(feed, None)), (["spoilt"], None))
+        self.assertEqual((len(spoilt), next(feed, None)), (1, None))
+        self.assertIn("from a database that isn't the one any more", spoilt[0])

@@ -74,7 +74,7 @@ class Databases(FleetTest):
             self.assertNotIn(b"ok", heard(made, 1), "a line is told that no standby has")
         line, why = b"desk net D1 2\nbook LOC 2\n", "a line is told that no standby has"
         self.see_that_nothing_is_told([one], line, 2 * LEASE, why)
-        self.want_in(one.told(), "event=database why=\"the database waits for no other machine")
+        self.wait_until_told(one, "event=database why=\"the database waits for no other machine")
         servers.asked(primary, "ALTER SYSTEM RESET synchronous_standby_names")
         servers.asked(primary, RELOAD)
         self.see_that_it_goes_on(fleet, one, lost)
@@ -95,7 +95,7 @@ class Databases(FleetTest):
         pooler.cut()
         self.see_that_nothing_is_told([one], b"desk net D1 2\nbook LOC 2\n", 2 * LEASE,
                                       "a line is told that no standby has")
-        self.want_in(one.told(), "synchronous_commit is off in its sessions, though on was asked for")
+        self.wait_until_told(one, "synchronous_commit is off in its sessions, though on was asked for")
         refused = fleet.start(1, is_awaited=False, uri=pooler.uri(fleet.uri))
         self.assertEqual(refused.process.wait(20), 1, refused.told())
         self.want_in(refused.told(), "synchronous_commit is off in its sessions")
@@ -105,6 +105,10 @@ class Databases(FleetTest):
         self.databases.wait_until_whole()
         pooler.cut()
         self.assertEqual(asked([one], b"book LOC 2\nbook LOC 1\n", 2, sequence=2), [b"ok 2", b"ok 3"])
+
+    def wait_until_told(self, one: Server, text: str) -> None:
+        """A server's look at the database comes a moment after a commit that nobody is told of."""
+        wait_for(lambda: text in one.told(), f"{text!r} in what the server tells")
 
     def see_that_it_goes_on(self, fleet: Fleet, one: Server, lost: list[str]) -> None:
         """With the standbys that were lost a second line is answered, which was sent before, and a third."""

@@ -165,7 +165,7 @@ class Stores(FleetTest):
         again = self.store.members(Named("one", "c:1", "p"))
         self.addCleanup(again.close)
         again.beat(True)
-        with self.assertRaisesRegex(Stop, "another start of a server has the name one now"):
+        with self.assertRaisesRegex(Stop, "another server was started with the name one"):
             self.members.beat(False)
         self.assertEqual([(it.name, it.is_leaving) for it in again.beat(True).members if it.name == "one"],
                          [("one", True)])

@@ -9,7 +9,7 @@ import sys
 
 from trials.mistakes import BLIND, LOST, TWICE, Form, main
 
-HALL, FLEET, OWNING = (f"nrm/server/{it}.py" for it in ("hall", "fleet", "fleet_owners"))
+FLEET, OWNING, PROGRAMS, SESSIONS = (f"nrm/server/{it}.py" for it in ("fleet", "fleet_owners", "programs", "sessions"))
 POSTGRES = "nrm/journal/postgres"
 SMALL = ("--networks", "4", "--desks", "40", "--pause", "0.1", "--between", "1")
 COMMIT = """ "
@@ -30,12 +30,12 @@ def moment(name: str) -> tuple[str, ...]:
 
 FORMS = {
     "the reply goes out before the commit": Form((
-        (HALL, """        if not self.in_writing:
-            self.loop.soon""", """        session.kept(rows.count(b"\\n"))
-        if not self.in_writing:
-            self.loop.soon"""),
-        (HALL, """                session.kept(given.rows.count(b"\\n"))
-""", """                pass
+        (SESSIONS, """self.written))
+""", """self.written))
+        self.kept(given.count())
+"""),
+        (SESSIONS, """            self.kept(given.count())
+""", """            pass
 """)), trial(6, 2), LOST),
     "rows are written whoever has the network": Form((
         (f"{POSTGRES}_writing.py",
@@ -49,7 +49,7 @@ split_part(entry, E'\\t', 6) = ''
         # told, or written alone: its lease may be seen to be over between the two
         r"AssertionError: (.*who was stopped tells b'ok|Lists differ: .* != \['D1', 'D2', 'D1'\])"),
     "a look is answered by who has lost the network": Form((
-        (HALL, "if not rows and self.writer.is_still(given):", "if not rows:"),),
+        (SESSIONS, "if not rows and self.commits.writer.is_still(given):", "if not rows:"),),
         moment("owners.Owners.test_nothing_is_told_before_the_fence_is_passed"), UNTOLD),
     "sent again is carried out again": Form((
         (f"{POSTGRES}_tables.py", r"concat_ws(E'\t', number, desk, sequence,",
@@ -85,7 +85,7 @@ split_part(entry, E'\\t', 6) = ''
         "owners.Owners.test_a_journal_that_was_changed_halts_its_network"), r"AssertionError: .*closed halted",
         BLIND),
     "whichever program is there answers": Form((
-        (HALL, "return network.program == self.answering.checksum or is_free", "return True or is_free"),
+        (PROGRAMS, "return network.program == self.answering.checksum or is_free", "return True or is_free"),
         (OWNING, "if it.program == program and not it.is_leaving]", "if not it.is_leaving]")),
         moment("owners.Owners.test_another_program_takes_nothing"), "AssertionError: .*another program answers"),
 }

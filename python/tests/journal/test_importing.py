@@ -37,7 +37,7 @@ class Importing(ServeTest):
         """But for looks, those that changed nothing, and half a line at the end. A server goes on behind them."""
         (self.folder / "old.void").write_bytes(VOID)
         self.assertEqual(self.told(*self.imported()), f"7 lines of {self.old} are in journal; left out: lines of "
-                         f"{self.old}.void 2, lines that change nothing 7, bytes behind the last line feed 10\n")
+                         f"{self.old}.void 2, lines that change nothing 7, bytes after the last line feed 10\n")
         journal = self.folder / "journal"
         self.same(rows_in(journal), *ROWS)
         self.assertEqual(rows_in(journal, "SELECT name, mode, file, halted FROM network"),
@@ -76,19 +76,19 @@ class Importing(ServeTest):
         for numbers, line in [(b"4\n", 1), (b"2\n1\n", 2), (b"2\n2\n", 2), (b"1\n" + b"9" * 4301 + b"\n", 2),
                               (b"x\n", 1), (b"1\n\n", 2), (b"01\n", 1), (b"1\xb2\n", 1), (b"0\n", 1)]:
             void.write_bytes(numbers)
-            self.stopped(*self.imported(), says=f"{void}: line {line} isn't the number of a next one of the 3 lines of")
+            self.stopped(*self.imported(), says=f"{void}: line {line} isn't the number of a further one of the 3 lines of")
         self.assertEqual(rows_in(self.folder / "journal", "SELECT name FROM network"), [])
 
     def test_what_cannot_be_imported_leaves_nothing(self) -> None:
         os.mkfifo(self.folder / "fifo")
-        for old, says in ((self.folder / "none", "none: No such file"), (self.folder / "fifo", "fifo is no plain file"),
-                          (self.folder, f"{self.folder} is no plain file")):
+        for old, says in ((self.folder / "none", "none: No such file"), (self.folder / "fifo", "fifo isn't a plain file"),
+                          (self.folder, f"{self.folder} isn't a plain file")):
             self.stopped(*self.imported(old=old), says=says)
         self.stopped("journal", "import", "journal", "one", "first", self.file("bad.csv", "periods,1,1\nleg,ab,1\n"),
                      self.old, *self.with_it, says="bad.csv` ended with status 3: refused row 2")
         self.stopped("journal", "import", "journal", "one", "best", self.network, self.old, *self.with_it, status=2,
-                     says="the mode is one of")
-        self.stopped("journal", "import", "journal", "one", "first", self.network, status=2, says="and not 3")
+                     says="isn't one of: first, bid, davn")
+        self.stopped("journal", "import", "journal", "one", "first", self.network, status=2, says="and 3 were given")
         self.assertEqual(rows_in(self.folder / "journal", "SELECT name FROM network"), [])
         self.told(*self.imported())
         self.stopped(*self.imported(), says="has a network one already")

@@ -49,13 +49,13 @@ class Journals(ServeTest):
             with_it = ["--program", *self.desks_program.words]
             for words in (["look", path], ["backup", path, "copy"], ["end", path, "a"],
                           ["open", path, "a", "first", path, *with_it]):
-                self.stopped("journal", *words, says="is no journal")
-            self.stopped("serve", path, "--socket", "socket", *with_it, says="is no journal")
+                self.stopped("journal", *words, says="isn't a journal")
+            self.stopped("serve", path, "--socket", "socket", *with_it, says="isn't a journal")
             self.assertEqual(Path(path).read_bytes(), content)
             self.assertEqual((self.folder / "other-wal").exists(), False)
         with contextlib.closing(sqlite3.connect(self.folder / "store")) as connection:
             connection.execute("CREATE TABLE other (it)")
-        self.stopped("journal", "look", "store", says="is no journal")
+        self.stopped("journal", "look", "store", says="isn't a journal")
         self.stopped("journal", "look", "none", says="none")
 
     def test_a_network_is_put_into_it_byte_for_byte(self) -> None:
@@ -69,9 +69,9 @@ class Journals(ServeTest):
         self.want_in(self.told("journal", "look", "journal"), f"program {checksum}\n")
         self.stopped("journal", "open", "journal", "one", "bid", network, *with_it, says="has a network one already")
         for name in ("One", "", "a b", "a" * 41, "é"):
-            self.stopped("journal", "open", "journal", name, "bid", network, *with_it, says="is no name of a network")
+            self.stopped("journal", "open", "journal", name, "bid", network, *with_it, says="isn't a name of a network")
         self.stopped("journal", "open", "journal", "two", "best", network, *with_it, status=2,
-                     says="the mode is one of")
+                     says="isn't one of: first, bid, davn")
         bad = self.file("bad.csv", ONE.replace("300", "1000"))
         self.stopped("journal", "open", "journal", "two", "bid", bad, *with_it, says="refused row 2 why 7 range")
         self.stopped("journal", "open", "journal", "two", "bid", "none", *with_it, says="none")
@@ -83,7 +83,7 @@ class Journals(ServeTest):
         self.told("journal", "begin", "journal")
         for name, is_second in (("one", False), ("two", True), ("three", False)):
             done = self.ran("journal", "open", "journal", name, "bid", network, *with_it)
-            says = f"{name} is the second network: from now on a desk that names none is answered `closed network`"
+            says = f"{name} is the second network: from now on a desk that names none gets `closed network`"
             self.assertEqual((done.status, done.out, done.err),
                              (0, "", f"nrm-tools journal: {says}\n" if is_second else ""))
             if name == "one":
@@ -106,9 +106,9 @@ class Journals(ServeTest):
         self.same(looked("--booking", "1"), every[0], every[2])
         self.same(looked(9))
         self.stopped("journal", "look", "journal", "two", says="the journal has no network two")
-        self.stopped("journal", "look", "journal", "one", "x", status=2, says="'x' is no number of a line")
+        self.stopped("journal", "look", "journal", "one", "x", status=2, says="NUMBER: 'x' isn't a whole number")
         self.stopped("journal", "look", status=2)
-        self.stopped("journal", "look", "journal", "one", "1", "2", status=2, says="and not 3")
+        self.stopped("journal", "look", "journal", "one", "1", "2", status=2, says="and 3 were given")
         self.assertRegex(self.told("journal", "look", "journal", "one", "1"),
                          r"^1\t\d{4}-\d\d-\d\dT[0-9:.]{12}Z\tD1\t1\t")
 

@@ -48,4 +48,4 @@ class Resuming(PlaceTest):
         os.mkfifo(fifo)
         for words in ([fifo, hub / "commands.txt"], [hub / "commands.txt", fifo]):
             told = self.stopped("resume", hub / "network.csv", "first", *words, "--program", "true")
-            self.assertEqual(told, f"nrm-tools resume: {fifo} is no plain file\n")
+            self.assertEqual(told, f"nrm-tools resume: {fifo} isn't a plain file\n")

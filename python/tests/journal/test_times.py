@@ -45,28 +45,28 @@ class NetworkTimes(ServeTest):
         self.open("one", *TIMES)
         late, second = "2026-12-31T10:00Z", "2=2026-12-01T00:00Z"
         for says, status, *words in (
-                ("wants --departure too", 2, "--begins", second),
+                ("can be used with --departure only", 2, "--begins", second),
                 ("has no offset from UTC", 2, "--departure", "2026-12-31T10:00"),
                 ("has no offset from UTC", 2, "--departure", late, "--begins", "2=2026-12-01T00:00:00"),
-                ("is no time such as", 2, "--departure", ""),
-                ("is no time such as", 2, "--departure", "2026-12-31T10:00:00.5Z"),
-                ("is no time: ", 2, "--departure", "2026-02-30T10:00Z"),
+                ("isn't a time such as", 2, "--departure", ""),
+                ("isn't a time such as", 2, "--departure", "2026-12-31T10:00:00.5Z"),
+                ("isn't a time: ", 2, "--departure", "2026-02-30T10:00Z"),
                 ("of the years 1970 to 9999", 2, "--departure", "1969-12-31T23:59:59Z"),
                 ("period 3 begins at 2026-12-01T00:00:00Z, and period 2 before it at 2026-12-01T00:00:00Z", 2,
                  "--departure", late, "--begins", "3=2026-12-01T00:00Z", "--begins", "2=2026-12-01T01:00+01:00"),
                 ("period 2 begins at 2026-12-31T10:00:00Z, and the departure is at 2026-12-31T10:00:00Z", 2,
                  "--departure", late, "--begins", f"2={late}"),
-                ("is said twice", 2, "--departure", late, "--begins", second, "--begins", second),
+                ("is given twice", 2, "--departure", late, "--begins", second, "--begins", second),
                 ("period 1 begins when", 2, "--departure", late, "--begins", "1=2026-12-01T00:00Z"),
-                ("is no period and its time", 2, "--departure", late, "--begins", "0=2026-12-01T00:00Z"),
-                ("is no period and its time", 2, "--departure", late, "--begins", "2026-12-01T00:00Z"),
+                ("isn't a period and its time", 2, "--departure", late, "--begins", "0=2026-12-01T00:00Z"),
+                ("isn't a period and its time", 2, "--departure", late, "--begins", "2026-12-01T00:00Z"),
                 ("has 4 periods, and no period 5", 1, "--departure", late, "--begins", "5=2026-12-01T00:00Z")):
             with self.subTest(words):
                 self.stopped("journal", "times", "journal", "one", *words, status=status, says=says)
                 self.stopped("journal", "open", "journal", "two", "bid", self.network, *words, *self.with_it,
                              status=status, says=says)
         self.stopped("journal", "times", "journal", "none", *TIMES, says="has no network none")
-        self.stopped("journal", "end", "journal", "one", *TIMES, status=2, says="for `open` and `times`")
+        self.stopped("journal", "end", "journal", "one", *TIMES, status=2, says="with `open` and `times` only")
         self.assertEqual(self.told("journal", "times", "journal", "one"), TOLD)
         self.same(rows_in(self.folder / "journal", "SELECT name, ended FROM network"), ("one", None))
 

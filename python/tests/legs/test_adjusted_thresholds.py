@@ -74,7 +74,7 @@ class WithProgram(PlaceTest):
             self.assertEqual(legs, [f"leg,ZRH-VIE,8,{cuts[0]}", f"leg,VIE-BUD,6,{cuts[1]}"], way)
             self.want_in(out, f"\n{way}\n")
             self.nrm("print", way)
-        self.stopped("thresholds", LOG, 3, "--search", "--adjusted", "gaps", status=2, says="without --adjusted")
+        self.stopped("thresholds", LOG, 3, "--search", "--adjusted", "gaps", status=2, says="can't be used with --adjusted")
 
     def test_every_network_gets_thresholds_that_the_program_takes(self) -> None:
         """Also one whose prices leave products next to nothing, or less."""

@@ -31,7 +31,7 @@ class Groupings(PlaceTest):
         said, nothing, *made = head.splitlines()
         self.assertEqual((said, nothing), (
             f"On 2 legs of {network} the thresholds of least cost by the fares make 4 buckets, 2 on each; what they "
-            "earn wasn't measured.", ""))
+            "earn isn't measured here.", ""))
         self.assertEqual([it.split(":")[0] for it in made], ["network", "date", "versions"])
         self.assertEqual(table.splitlines(), ["", "  leg  cuts  centres   cost  for a seat",
                                               "  AB    400  500 150  1,200        21.4",
@@ -64,12 +64,12 @@ class Groupings(PlaceTest):
                 ([one, 2, "--adjusted", "cost"],
                  f"On 1 leg of {one} the thresholds of least cost by {adjusted} make 1 bucket;")):
             said = self.told("thresholds", *words, *self.with_program).splitlines()[0]
-            self.assertEqual(said, f"{wanted} what they earn wasn't measured.")
+            self.assertEqual(said, f"{wanted} what they earn isn't measured here.")
 
     def test_are_told_in_a_table_where_nothing_is_drawn(self) -> None:
         words = [self.file("network.csv", FARES_OF_LEGS), 2, "--pictures", "pictures", *self.with_program]
         out, err, status = self.ran("thresholds", *words)
-        self.assertEqual((err.startswith("nrm-tools thresholds: no pictures, since "), status), (True, 0), err)
+        self.assertEqual((err.startswith("nrm-tools thresholds: there are no pictures, since "), status), (True, 0), err)
         self.assertEqual(out.partition("The fares on AB\n")[2].splitlines()[1:6],
                          ["  group  fare  seats  centre", "  1       500      4     400",
                           "  1       400      6     400", "  2       150     10     150", ""])

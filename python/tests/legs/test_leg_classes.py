@@ -38,7 +38,7 @@ class Classes(PlaceTest):
                           "  LO      200         0.50        2       3", "",
                           "Mean revenue of a history, in currency units", "", "            revenue     share",
                           "  optimum  1,075.00", "  EMSR-b   1,050.00  97.674 %", "",
-                          "products that use X and other legs, which have no part in this: 1"])
+                          "products that use X and other legs, which aren't counted here: 1"])
         second = THREE_CLASSES
         for old, new in (("periods,4,1", "periods,4,1,2"), ("leg,X,3", "leg,X,9,3"), ("leg,Y,2", "leg,Y,2,2")):
             second = second.replace(old, new)
@@ -60,7 +60,7 @@ class Classes(PlaceTest):
         many = [["periods", 1, 1], ["leg", "X", 5], ["leg", "Y", 5], ["product", "OVER", 5, "X", "Y"],
                 *[["product", f"P{it}", 5, "X"] for it in range(11)]]
         path, program = self.file("many.csv", text_of(many)), self.with_program
-        for leg, wanted in (("X", "the products whose only leg is X are 11, and it takes 1 to 10"),
+        for leg, wanted in (("X", "the products whose only leg is X are 11, and this takes 1 to 10"),
                             ("Y", "only leg is Y are 0, and"), ("Z", "there is no leg Z")):
             self.stopped("optimum", path, leg, *program, says=wanted)
         few = self.file("few.csv", text_of([it for it in many if it[1] not in ("P0", "OVER")]))

@@ -9,7 +9,7 @@ from pathlib import Path
 from harness import TOP, PlaceTest
 from nrm.commands.web import words_of as words_of_web
 from nrm.journal.stores import REPLACED
-from nrm.server.hall import JOURNAL_FAULT
+from nrm.server.relay import JOURNAL_FAULT
 
 UNITS = {it: TOP / "examples" / "operating" / f"nrm-{it}.service" for it in ("serve", "web")}
 INSTALLED = "/opt/nrm/nrm-tools"

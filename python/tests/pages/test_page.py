@@ -63,6 +63,6 @@ class Pages(unittest.TestCase):
 
 class Missing(unittest.TestCase):
     def test_the_sentence_names_what_isnt_made_and_the_packages(self) -> None:
-        self.assertRegex(missing(["matplotlib"]), r"^no pictures, since .*, has no matplotlib; .*python3-matplotlib")
-        self.assertRegex(missing(["matplotlib", "jinja2"]), "^no pictures and no page, since .* has no matplotlib and "
+        self.assertRegex(missing(["matplotlib"]), r"^there are no pictures, since .*, has no matplotlib; .*python3-matplotlib")
+        self.assertRegex(missing(["matplotlib", "jinja2"]), "^there are no pictures and no page, since .* has no matplotlib and "
                          "no jinja2; .*python3-matplotlib.* python3-jinja2")

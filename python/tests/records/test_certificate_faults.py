@@ -4,13 +4,13 @@ from __future__ import annotations
 from harness import EXAMPLES, PlaceTest
 
 LINES_AT_FAULT = [  # of a certificate's lines, what is put in their place, and a part of the advice
-    ("\ufeffvalue 4130,5", "write `value` and a fraction, without the byte order mark before it, as 3/2"),
+    ("\ufeffvalue 4130,5", "write `value` and a fraction, without the byte order mark before it, such as 3/2"),
     ("product abh 3/1", "write `product ABH 3/1`"),
     ("product ABL 3/1 ", "write `product ABL 3/1`"), ("product;ACH;4", "write `product ACH 4/1`"),
-    ("", "no blank lines and no remarks"), ("# seats", "no blank lines and no remarks"),
+    ("", "can't have blank lines or comments"), ("# seats", "can't have blank lines or comments"),
     ("product BCL 06/01", "write `product BCL 6/1`"), ("product ACL", "write `product ACL` and a fraction"),
     ("product ACL 0/0", "write `product ACL` and a fraction"), ("LEG AB 150/1", "write `leg AB 150/1`"),
-    ("leg CD 1/1", "it is none of"), ("leg BC 80.00", "a decimal is to be"), ("nest AB ABH 400/1 1", "under davn"),
+    ("leg CD 1/1", "it must be"), ("leg BC 80.00", "a decimal must be"), ("nest AB ABH 400/1 1", "under davn"),
     ("protect AB 5", "under davn")]
 
 

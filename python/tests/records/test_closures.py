@@ -13,10 +13,10 @@ from records.made_sales import CLOSURES, HALF, HALF_ROWS, READINGS, TWO, SalePla
 DAY = datetime.date(2025, 3, 14)
 MEAN = ["--mean", "--opens", "10"]
 REFUSED = [  # a row of closures, and what is told of it
-    ("2025-03-14,A,soon,", "line 2: 'soon' is no date that is known"),
-    ("2025-03-14,A,2025-03-11 24:30,", "line 2: '2025-03-11 24:30' has no time of a day"),
-    ("2025-03-14,A,2025-03-11 12:60,", "line 2: '2025-03-11 12:60' has no time of a day"),
-    ("2025-03-14,A,2025-03-11 13:00 PM,", "line 2: '2025-03-11 13:00 PM' has no time of a day"),
+    ("2025-03-14,A,soon,", "line 2: 'soon' isn't a date"),
+    ("2025-03-14,A,2025-03-11 24:30,", "line 2: '2025-03-11 24:30' has no time of day"),
+    ("2025-03-14,A,2025-03-11 12:60,", "line 2: '2025-03-11 12:60' has no time of day"),
+    ("2025-03-14,A,2025-03-11 13:00 PM,", "line 2: '2025-03-11 13:00 PM' has no time of day"),
     ("2025-03-14,A,2025-03-11,2025-03-10", "line 2: it was closed from 2025-03-11 to 2025-03-10, which is earlier"),
     ("2025-03-14,A,2025-03-16,", "line 2: it was closed after its departure on 2025-03-14"),
     ("2025-03-14,A,2025-03-10,2025-03-16", "line 2: it was closed after its departure on 2025-03-14"),
@@ -59,14 +59,14 @@ class Forms(SalePlace):
         text = CLOSURES + "2025-03-14,A,2025-03-11,\n" + "".join(f"{row}\n" for row, _ in REFUSED) * 3
         err = self.refused(MEAN, TWO, text)
         self.assertEqual((err.count("    line "), "line 2:" in err), (20, False), err)
-        self.want_in(err, "    line 3: 'soon' is no date")
+        self.want_in(err, "    line 3: 'soon' isn't a date")
         self.want_in(err, "    and 10 more\n")
         self.want_in(self.refused(MEAN, TWO, "Departure,Product,From\n"), "has no column closed from, closed to")
 
     def test_each_reading_that_cant_be_read_is_told(self) -> None:
         for row, wanted in (
-                ("2025-03-14,A,2025-03-12,some", "line 2: 'some' is no number of seats, and neither open nor closed"),
-                ("2025-03-14,A,2025-03-12,-1", "line 2: '-1' is no number of seats"),
+                ("2025-03-14,A,2025-03-12,some", "line 2: 'some' is neither a number of seats nor open or closed"),
+                ("2025-03-14,A,2025-03-12,-1", "line 2: '-1' is neither a number of seats nor open or closed"),
                 ("2025-03-14,A,2025-03-16,1", "line 2: it was read on 2025-03-16, after its departure on 2025-03-14"),
                 ("2025-03-14,,2025-03-12,1", "line 2: it names no product"),
                 ("2025-03-14,A,,1", "line 2: it has no day on which it was read")):

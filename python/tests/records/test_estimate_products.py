@@ -27,7 +27,7 @@ class NeverOpen(SalePlace):
         """So B would have been asked for once in period 1."""
         found = self.demand(MEAN, NEVER, SHUT)
         self.assertEqual(self.of("B", found.out), ["demand,B,1,1,4", "demand,B,2,1,4"])
-        self.want_in(found.err, "B was never open in period 1: its demand there isn't known, and taken from its own "
+        self.want_in(found.err, "B was never open in period 1: its demand there isn't known, and is taken from its own "
                                 "rate elsewhere by the course of its class: 1.00 seats a departure\n")
         self.want_in(found.report, "\nB,B,4.00,80.0,5.00,,1\n")
 
@@ -36,7 +36,7 @@ class NeverOpen(SalePlace):
         path = self.file("before.csv", NETWORK)
         found = self.demand([*MEAN, "--before", path], NEVER, SHUT)
         self.assertEqual(self.of("B", found.out), ["demand,B,1,4,4", "demand,B,2,4,4"])
-        self.want_in(found.err, f"its demand there isn't known, and taken from {path}: 4.00 seats a departure\n")
+        self.want_in(found.err, f"its demand there isn't known, and is taken from {path}: 4.00 seats a departure\n")
         path = self.file("three.csv", NETWORK.replace("periods,1,2", "periods,1,3").replace("4,1\n", "4,1,0\n"))
         self.want_in(self.refused(["--before", path], NEVER, SHUT), "three.csv has 3 periods, and --cuts makes 2")
 
@@ -49,7 +49,7 @@ class NeverOpen(SalePlace):
                                 "as if nobody had asked; --before NETWORK takes what was asked for earlier, and "
                                 "--like-class the mean of the products of its class\n")
         found = self.demand([*MEAN, "--like-class"], NEVER, ALL_SHUT)
-        self.want_in(found.err, "and taken from the mean rate of its class by the course of its class: 4.50 seats a "
+        self.want_in(found.err, "and is taken from the mean rate of its class by the course of its class: 4.50 seats a "
                                 "departure\n")
         self.assertEqual(sum(int(seats) for row in self.of("C", found.out) for seats in row.split(",")[3:]), 9)
         path = self.file("network.csv", NETWORK)

@@ -100,7 +100,7 @@ class Report(SalePlace):
         self.want_in(self.demand([], TWO.replace(",A,", ",a b,")).err, "nrm-tools demand: A-B stands for 'a b'\n")
         names = self.file("names.csv", "name,stands for\nOLD,a b\n")
         found = self.demand(["--names", names], TWO.replace(",A,", ",a b,"))
-        self.want_in(found.err, f"nrm-tools demand: names made 1; {names} lists what they stand for\n")
+        self.want_in(found.err, f"nrm-tools demand: 1 name was made; {names} lists what they stand for\n")
         self.want_in(found.out, "\ndemand,OLD,1,1,6\n")
 
     def test_many_that_were_never_open(self) -> None:

@@ -21,8 +21,8 @@ class Cancellations(ExportTest):
         self.assertEqual(out.splitlines()[3:], [
             "product,AAC-BON-FLEX,45,AAC-BON", "product,AAC-CAS-FLEX,93,AAC-BON,BON-CAS",
             "product,BON-CAS-SAVE,21,BON-CAS", *DEMAND])
-        self.want_in(err, "cancellations without a booking of their number, departure, product and as many seats 1, "
-                     "which don't count: line 8\n")
+        self.want_in(err, "cancellations without a booking of their number, departure, product and as many seats, "
+                     "which don't count: 1, line 8\n")
         self.want_in(err, "bookings 6, of them cancelled 1, 1 more in part, in rows of their own, of which 2 were "
                      "paired; without --net `nrm-tools simulate --cancel 0.1667` plays such seasons\n")
         self.want_in(err, "departures on 2 days, from 2025-03-07 to 2025-03-14")
@@ -32,10 +32,10 @@ class Cancellations(ExportTest):
         """As seats or an amount below 0 show; where its number is of no booking, it is told."""
         err = self.refused("", "--cancels", "Status", "void", rows=BOOKINGS + CANCELLED)
         for line in (9, 10):
-            self.want_in(err, f"line {line}: it cancels a booking of another row: say --id, the column of the "
+            self.want_in(err, f"line {line}: it cancels a booking of another row: use --id with the column of the "
                          "booking's number\n")
         others = CANCELLED.replace("2;void", "12;void").replace("3;void", "13;void")
-        self.want_in(self.read(*OF_IDS, rows=BOOKINGS + others).err, "3, which don't count: lines 8, 9, 10\n")
+        self.want_in(self.read(*OF_IDS, rows=BOOKINGS + others).err, "which don't count: 3, lines 8, 9, 10\n")
 
     def test_what_stands_alone_counts_if_asked_for(self) -> None:
         out = self.read(*OF_IDS, "--net", rows=BOOKINGS + CANCELLED).out
@@ -51,7 +51,7 @@ class Cancellations(ExportTest):
         row = "3;void;2025-03-06 {}:00;2025-03-07;;Bonn;Cassel;Saver;1;-20,50 €\n"
         out, err, _ = self.read(*OF_IDS, "--net", rows=BOOKINGS + "".join(row.format(it) for it in (10, 11, 12, 13)))
         self.assertNotIn("demand,BON-CAS-SAVE,1,", out)
-        self.want_in(err, "and as many seats 1, which don't count: line 11\n")
+        self.want_in(err, "and as many seats, which don't count: 1, line 11\n")
         self.want_in(err, "bookings 6, of them cancelled 1, in rows of their own, of which 3 were paired; ")
 
     def test_a_cancellation_may_be_a_status(self) -> None:
@@ -68,8 +68,8 @@ class Cancellations(ExportTest):
                              "simulate --cancel 0.1667` plays such seasons\n")
 
     def test_a_column_without_a_cancellation_is_refused(self) -> None:
-        self.refused("no row is a cancellation by the column status, where there stands sold 6; say which texts mean "
-                     "one: --cancels status TEXT..", "--cancels", "status")
+        self.refused("no row is a cancellation by the column status, which has sold 6; name the texts that mean "
+                     "one, --cancels status TEXT..", "--cancels", "status")
         self.refused("no row is a cancellation", "--cancels", "status", "void")
 
     def test_what_leaves_nothing_is_refused(self) -> None:
@@ -77,7 +77,7 @@ class Cancellations(ExportTest):
         self.refused("no booking of the log stands", "--cancels", "Status", "void", "--net", rows=void)
         self.refused("has no booking: each row cancels one", *OF_IDS, rows=CANCELLED)
         self.refused("no request that counts departs up to 2025-03-01", "--until", "1.3.2025")
-        self.refused("no departure of the log is on a tue", "--weekday", "tue")
+        self.refused("the log has no departure on a tue", "--weekday", "tue")
 
     def test_products_of_other_seasons_are_told(self) -> None:
         """They are in the network, without demand."""
@@ -85,19 +85,19 @@ class Cancellations(ExportTest):
         out, err, _ = self.read("--until", "2025-03-07", rows=rows)
         self.want_in(out, "product,BON-CAS-FLEX,93,BON-CAS\n")
         self.assertNotIn("demand,BON-CAS-FLEX", out)
-        self.want_in(err, "products that nobody asked for in these seasons 1: BON-CAS-FLEX\n")
+        self.want_in(err, "nobody asked for 1 of the products in these seasons: BON-CAS-FLEX\n")
 
     def test_what_was_cancelled_before_it_could_be_booked_is_refused(self) -> None:
         """A row of its own may be behind the departure, and a booking not."""
         rows = BOOKINGS.replace("1;sold;2025-03-01 10:00", "1;void;2025-03-08")
-        self.refused("bookings that are cancelled were made after their departure, in line 2: mend them",
+        self.refused("bookings that are cancelled were made after their departure, in line 2: fix or remove them",
                      "--cancels", "status", "void", rows=rows)
 
     def test_fares_of_what_was_cancelled_stand_in_where_nothing_stands(self) -> None:
         rows = BOOKINGS.replace("2;sold", "2;void").replace("5;sold", "5;void")
         out, err, _ = self.read("--cancels", "status", "void", rows=rows)
         self.want_in(out, "product,AAC-CAS-FLEX,91,")
-        self.want_in(err, "products of which no booking stands 1, whose fares are those of what was cancelled: "
+        self.want_in(err, "products of which no booking stands, whose fares are those of cancelled bookings: 1, "
                      "Aachen - Cassel Flex\n")
 
 
@@ -109,8 +109,8 @@ class Twice(ExportTest):
         out, err, _ = self.read("--id", "No", rows=more)
         self.want_in(out, "demand,AAC-CAS-FLEX,1,2,0\n")
         self.want_in(out, "demand,AAC-BON-SAVE,1,0,1\n")
-        self.want_in(err, "rows that are there twice 2, which count once: lines 8, 10\n")
-        self.want_in(err, "rows with the number of another booking 1, which differ from it and count: line 9\n")
+        self.want_in(err, "rows that occur twice, which count once: 2, lines 8, 10\n")
+        self.want_in(err, "rows with the number of another booking, which differ from it and count: 1, line 9\n")
         self.want_in(self.read(rows=more).out, "demand,AAC-CAS-FLEX,1,6,0\n")
         self.refused("line 3: it has nothing in No", "--id", "No", rows=BOOKINGS.replace("2;", ";", 1))
 
@@ -183,7 +183,7 @@ class ToldTwice(ExportTest):
         made = self.read(*OF_IDS, "--stream", "2025-03-07", rows=BOOKINGS + TWICE)
         self.assertEqual(sum(it.startswith("cancel ") for it in made.out.splitlines()), 3)
         self.want_in(made.err, "requests 7, cancellations 3\n")
-        self.want_in(made.err, "cancellations of a day that the export doesn't say 1")
+        self.want_in(made.err, "cancellations whose day the export doesn't have: 1")
 
     def test_a_number_of_several_rows_is_taken_row_by_row(self) -> None:
         """Of one number a seat stands, and one of the same kind is cancelled by its own row and refunded."""
@@ -208,10 +208,10 @@ class ToldTwice(ExportTest):
         rows = BOOKINGS + TWICE.replace("\n11;void;2025-03-05", "\n91;refund;2025-03-05").replace(
             "\n12;void;2025-03-05", "\n92;refund;2025-03-05")
         words = ["--id", "No", "--cancels", "Status", "void", "refund"]
-        says = ("3 rows cancel something and have no amount below 0, and no booking and no refund of their number: "
+        says = ("3 rows cancel something, and have neither an amount below 0 nor a booking or refund of their number: "
                 "lines 8, 9, 10. Others have seats or amounts below 0. If the 3 are bookings that are cancelled by "
-                "their own row, leave the refunds out, --without COLUMN TEXT, by refund; if they cancel bookings that "
-                "the export hasn't, leave them out, --leave-out 3")
+                "their own row, leave out the refunds with --without COLUMN TEXT, by refund; if they cancel bookings that "
+                "the export doesn't have, leave them out with --leave-out 3")
         self.refused(says, *words, rows=rows)
         self.assertEqual(self.seats(*words, "--without", "Status", "refund", rows=rows), IN_ALL)
         self.assertEqual(self.seats(*words, "--leave-out", "3", rows=rows), 9)

@@ -4,32 +4,32 @@ from __future__ import annotations
 from records.made_export import BOOKINGS, COLUMNS, FARES, NETWORK, STOPS, ExportTest
 
 GROUPS = [  # more words or other ones, and a part of the sentence
-    (["--from", "From"], "--from and --to go together"),
-    ([*STOPS, "--stops", "From"], "a journey's stops are in --stops, or in --from and --to"),
-    ([*STOPS, "--seats-of", "s"], "with its stops a log wants --fare or --amount"),
-    ([*STOPS, *FARES], "with its stops a log wants --seats-of FILE"),
-    ([*STOPS, *FARES, "--amount", "Price"], "--fare is of a seat and --amount of a row"),
-    ([*STOPS, *FARES, "--seats-of", "s", "--network", "n"], "with its stops a log makes the network"),
-    (["--seats-of", "s"], "--seats-of wants --from and --to, or --stops"),
-    (["--line", "A", "B"], "--line wants --from and --to, or --stops"),
-    (["--join", "A"], "--join wants --from and --to"),
-    (["--stops", "From", "--join", "A", *FARES, "--seats-of", "s"], "--line and --join are of trains"),
-    (["--cents"], "--cents wants --fare or --amount"), (["--net"], "--net wants --cancels"),
-    (["--only", "Train"], "--only wants a column and one text or more"),
-    (["--leave-out", "-1"], "--leave-out -1: a number of rows is wanted"), (["--until", "soon"], "soon is no day"),
-    (["--stream", "07.03.25"], "07.03.25 is no day"),
-    (["--stream", "1", "2", "3"], "--stream wants a date, and perhaps a file")]
+    (["--from", "From"], "--from and --to must be given together"),
+    ([*STOPS, "--stops", "From"], "--stops can't be used with --from and --to"),
+    ([*STOPS, "--seats-of", "s"], "a log with stops needs --fare or --amount"),
+    ([*STOPS, *FARES], "a log with stops needs --seats-of FILE"),
+    ([*STOPS, *FARES, "--amount", "Price"], "--fare can't be used with --amount"),
+    ([*STOPS, *FARES, "--seats-of", "s", "--network", "n"], "--network can't be used with stops"),
+    (["--seats-of", "s"], "--seats-of needs --from and --to, or --stops"),
+    (["--line", "A", "B"], "--line needs --from and --to, or --stops"),
+    (["--join", "A"], "--join needs --from and --to"),
+    (["--stops", "From", "--join", "A", *FARES, "--seats-of", "s"], "--line and --join are for trains"),
+    (["--cents"], "--cents needs --fare or --amount"), (["--net"], "--net needs --cancels"),
+    (["--only", "Train"], "--only needs a column and at least one text"),
+    (["--leave-out", "-1"], "--leave-out -1: the number of rows can't be below 0"), (["--until", "soon"], "soon isn't a date"),
+    (["--stream", "07.03.25"], "07.03.25 isn't a date"),
+    (["--stream", "1", "2", "3"], "--stream takes a date and at most one file")]
 AMOUNTS = [  # the price of the first booking, and a part of the sentence
-    ("", "line 2: it has no amount"), ("free", "line 2: 'free' is no amount"),
+    ("", "line 2: it has no amount"), ("free", "line 2: 'free' isn't an amount"),
     ("-40,00 €", "line 2: '-40,00 €' is below 0"),
     ("40.00 €", "the column Price has two decimal marks: line 2 has '40.00 €' and line 3 '90,00 €'"),
     ("40,00 CHF", "the column Price has two currencies: line 2 has '40,00 CHF' and line 3 '90,00 €'"),
     ("1,040 €", "line 2: in '1,040 €' , is a mark for thousands, and elsewhere for decimals")]
 SEAT_FILES = [  # the file of seats, and a part of the sentence
     ("Aachen-Bonn,8\n", "has no seats for Bonn - Cassel"), ("", "has no seats for Aachen - Bonn, Bonn - Cassel"),
-    ("Aachen-Bonn,8\nBonn-Cassel,1000\n", "line 2 is to have a train or a leg of its own and its seats, 0 to 999"),
-    ("Aachen-Bonn,8\nAachen-Bonn,9\n", "line 2 is to have"), ("leg,seats\nAachen-Bonn,8,9\n", "line 2 is to have"),
-    ("leg,seats\nAachen-Bonn,many\n", "line 2 is to have")]
+    ("Aachen-Bonn,8\nBonn-Cassel,1000\n", "line 2 must have a train or a leg of its own and its seats, 0 to 999"),
+    ("Aachen-Bonn,8\nAachen-Bonn,9\n", "line 2 must have"), ("leg,seats\nAachen-Bonn,8,9\n", "line 2 must have"),
+    ("leg,seats\nAachen-Bonn,many\n", "line 2 must have")]
 
 
 class Offers(ExportTest):
@@ -63,7 +63,7 @@ class Offers(ExportTest):
         out, err, status = self.ran("log", *words, "--train", "train")
         self.assertEqual((out.splitlines()[1:3], status), (["leg,GRZ-VIE,9", "leg,VIE-LHR,8"], 0), err)
         self.want_in(out, "product,GRZ-LHR-Y,325,GRZ-VIE,VIE-LHR\n")
-        self.want_in(err, "no leg of the export is 'GRZ-LHR' in line 3 of ")
+        self.want_in(err, "the export has no leg 'GRZ-LHR' in line 3 of ")
 
     def test_each_train_is_by_itself(self) -> None:
         """And goes its own way; its seats are those of the train, of a leg with its train, or of a name."""
@@ -109,7 +109,7 @@ class Offers(ExportTest):
 
     def test_refuses_a_fare_that_is_none(self) -> None:
         for price, says in (("0,40 €", "the mean fare of 'Aachen - Bonn Flex' is 0.40, and a network file takes 1 to "
-                             "99999999; with --cents it is in cents"), ("123.456.789,00 €", "is 123456789.00, and")):
+                             "99999999; with --cents fares are in cents"), ("123.456.789,00 €", "is 123456789.00, and")):
             self.refused(says, rows=f"1;sold;2025-03-01;2025-03-07;;Aachen;Bonn;Flex;1;{price}\n")
 
     def test_refuses_seats_with_their_line(self) -> None:
@@ -131,14 +131,14 @@ class Lines(ExportTest):
         """None of two before the other, unless a line says so; or each before the other."""
         rows = BOOKINGS.replace("Aachen;Bonn", "Aachen;Cassel")
         rows = rows.replace("Bonn;Cassel", "Bonn;Dorsten")
-        self.refused("no journey shows which of Aachen and Bonn comes first: say the stops in their order, --line STOP "
+        self.refused("no journey shows which of Aachen and Bonn comes first: give the stops in their order with --line STOP "
                      "STOP..", rows=rows)
         self.file("seats.csv", "Aachen-Bonn,9\nBonn-Cassel,8\nCassel-Dorsten,7\n")
         line = ["--line", "Aachen", "Bonn", "Cassel", "Ems", "Dorsten"]
         out = self.told("log", self.export(rows), *COLUMNS, *STOPS, *FARES, "--seats-of", "seats.csv", *line)
         self.want_in(out, "-CAS,8\nleg,CAS-DOR,7\n")
         back = "7;sold;2025-03-13;2025-03-14;;Cassel;Aachen;Flex;1;40,00 €\n"
-        self.refused("the journeys go round: line 3 from Aachen to Cassel, line 8 from Cassel to Aachen; so they are "
+        self.refused("the journeys go in a circle: line 3 from Aachen to Cassel, line 8 from Cassel to Aachen; so they are "
                      "of several trains", rows=BOOKINGS + back)
         self.refused("--line from Cassel to Bonn", "--line", "Cassel", "Bonn")
 
@@ -155,7 +155,7 @@ product,BON-CAS-SAVE,21,AAC-CAS
                      says="--join Delft: no journey begins or ends there; the stops are Aachen, Bonn, Cassel")
 
     def test_refuses_a_journey_that_is_none(self) -> None:
-        for first, says in ((";Bonn", "line 2: ' Bonn' is no journey from one stop to another"),
+        for first, says in ((";Bonn", "line 2: ' Bonn' isn't a journey from one stop to another"),
                             ("Bonn;Bonn", "line 2: it has the stop Bonn twice")):
             self.refused(says, rows=BOOKINGS.replace("Aachen;Bonn", first, 1))
         self.refused("line 2: it has nothing in Train", "--train", "Train")
@@ -165,4 +165,4 @@ product,BON-CAS-SAVE,21,AAC-CAS
         self.want_in(out, "periods,2,2\nleg,BON-CAS,5\nproduct,")
         self.want_in(err, "rows left out 2, without cassel in to\n")
         self.want_in(err, "rows left out 2, without SAVER in class\n")
-        self.refused("rows left out 6, without Delft in to; there stands Bonn, Cassel\n", "--only", "to", "Delft")
+        self.refused("rows left out 6, without Delft in to; the column has Bonn, Cassel\n", "--only", "to", "Delft")

@@ -16,8 +16,8 @@ class Streams(ExportTest):
         out, err, status = self.ran("log", path, *COLUMNS, *STOPS, *OF_IDS, *STREAM)
         self.assertEqual((out.splitlines(), status), (LINES, 0), err)
         self.want_in(err, "nrm-tools log: stream of 2025-03-07: requests 5, cancellations 1\n")
-        self.want_in(err, "nrm-tools log: cancellations after the departure 1: they aren't in the stream\n")
-        self.want_in(err, "a line `cancel N` has the number of the booking where each request is sold")
+        self.want_in(err, "nrm-tools log: cancellations after the departure: 1; they aren't in the stream\n")
+        self.want_in(err, "a line `cancel N` has the number that the booking has if each request is sold")
 
     def test_what_stands_alone_if_asked_for(self) -> None:
         path = self.export(BOOKINGS + CANCELLED)
@@ -35,7 +35,7 @@ class Streams(ExportTest):
         path = self.export(BOOKINGS.replace("1;sold", "1;void"))
         out, err, _ = self.ran("log", path, *COLUMNS, *STOPS, "--cancels", "Status", "void", *STREAM)
         self.assertEqual(out.splitlines()[-2:], ["book AAC-BON-FLEX 1", "cancel 1"])
-        self.want_in(err, "cancellations of a day that the export doesn't say 1: they stand at the end\n")
+        self.want_in(err, "cancellations whose day the export doesn't have: 1; they come at the end\n")
         for day, at in (("2025-03-05", 3), ("2025-03-01", 1), ("2025-02-01", 1)):
             path = self.export(BOOKINGS.replace("1;sold", f"1;{day}", 1).replace("sold", ""))
             lines = self.told("log", path, *COLUMNS, *STOPS, "--cancels", "Status", *STREAM).splitlines()
@@ -55,7 +55,7 @@ class Streams(ExportTest):
         words = [*COLUMNS, *STOPS, "--stream"]
         self.stopped("log", self.export(), *words, "8.3.2025", says="no booking of the export departs on 2025-03-08")
         path = self.export(BOOKINGS.replace("Flex;2;", "Flex;1000;"))
-        self.stopped("log", path, *words, "2025-03-07", says="line 3 is of 1000 seats, and a request is of at most 999")
+        self.stopped("log", path, *words, "2025-03-07", says="line 3 has 1000 seats, and a request can have at most 999")
 
     def test_goes_on_to_a_session_and_a_season(self) -> None:
         """On the network of the seasons up to another day, by the same list of names, with what these stand for."""

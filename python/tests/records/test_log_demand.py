@@ -87,7 +87,7 @@ class Demands(PlaceTest):
         out, err, status = self.ran("log", log, *words, *without)
         self.assertEqual((out, status), (few, 0))
         for told in ("left out 1, with cancelled in state\n", "left out 1, with 5 in seats\n",
-                     "left out 0, with x in state; there stands booked\n"):
+                     "left out 0, with x in state; the column has booked\n"):
             self.want_in(err, f"nrm-tools log: rows {told}")
 
     def test_goes_on_to_a_timetable_that_is_too_large(self) -> None:
@@ -97,8 +97,8 @@ class Demands(PlaceTest):
         words = [log, *COLUMNS, "--cuts", "3"]
         out, err, status = self.ran("log", *words)
         self.assertEqual((out.count("\n"), status), (301, 0))
-        self.want_in(err, "nrm-tools log: a network file takes 256 products: "
-                          "with its legs and fares `nrm-tools split` cuts it into files\n")
+        self.want_in(err, "nrm-tools log: a network file takes at most 256 products: "
+                          "once it has legs and fares, `nrm-tools split` splits it into files\n")
         self.assertEqual(re.findall("^product,.*", err, re.M), sorted(f"product,P{it}," for it in range(300)))
         rows = [["periods", 1, 1], *[["leg", f"L{it}", 9] for it in range(100)],
                 *[["product", f"P{it}", 50 + it, f"L{it % 100}"] for it in range(300)]]
@@ -113,7 +113,7 @@ class Demands(PlaceTest):
         log = MadeLog(5, seasons=40)
         path = self.file("log.csv", log.text("%Y-%m-%d"))
         self.stopped("log", path, *CUT_ONCE,
-                     says="40 days of departure, and a network file takes 32 histories: say --last 32")
+                     says="40 days of departure, and a network file takes 32 histories: use --last 32")
         log.requests = [it for it in log.requests if it[0] in log.departures[-6:]]
         few = self.told("log", self.file("few.csv", log.text("%Y-%m-%d")), *CUT_ONCE)
         self.assertEqual(self.told("log", path, *CUT_ONCE, "--last", "6"), few)
@@ -128,4 +128,4 @@ class Demands(PlaceTest):
         tuesdays = self.told("log", self.file("few.csv", log.text("%Y-%m-%d")), *CUT_ONCE)
         self.assertEqual(tuesdays.splitlines()[0], "periods,3,2")
         self.assertEqual(self.told("log", path, *CUT_ONCE, "--weekday", "tue"), tuesdays)
-        self.stopped("log", "few.csv", *CUT_ONCE, "--weekday", "fri", says="no departure of the log is on a fri")
+        self.stopped("log", "few.csv", *CUT_ONCE, "--weekday", "fri", says="the log has no departure on a fri")

@@ -10,22 +10,22 @@ from test_numbers import LONG
 GOOD = "2025-03-01,2025-03-07,P,1\n"
 REFUSED_ROWS = [  # what stands below the headings, and a part of the sentence
     ("2025-03-08,2025-03-07,P,1", "line 2: it was made on 2025-03-08, after its departure on 2025-03-07"),
-    ("2025-03-01,07.03.25,P,1", "'07.03.25' has a year of two digits; write it as 2025-03-07"),
-    ("2025-03-01,7 Nivose 2025,P,1", "'7 Nivose 2025' is no date that is known; write it as 2025-03-07"),
+    ("2025-03-01,07.03.25,P,1", "'07.03.25' has a year of two digits; write it like 2025-03-07"),
+    ("2025-03-01,7 Nivose 2025,P,1", "'7 Nivose 2025' isn't a date; write it like 2025-03-07"),
     ("Total,,,4", "line 2: it has no day of departure"),
     (",2025-03-07,P,4", "line 2: it has no day on which it was made"),
-    ("2025-02-29,2025-03-07,P,1", "'2025-02-29' is no date"), ("45717,45723,P,1", "'45723' is no date"),
-    ("03/04/2025,05/04/2025,P,1", "05/04/2025 can be read with the day or the month first; say --dates dmy"),
+    ("2025-02-29,2025-03-07,P,1", "'2025-02-29' isn't a date"), ("45717,45723,P,1", "'45723' isn't a date"),
+    ("03/04/2025,05/04/2025,P,1", "05/04/2025 can be read with the day or the month first; use --dates dmy"),
     ("13/04/2025,04/14/2025,P,1", "13/04/2025 has the day first, and 04/14/2025 the month"),
-    ("2025-03-01,2025-03-07,P,two", "line 2: 'two' is no number of seats"),
+    ("2025-03-01,2025-03-07,P,two", "line 2: 'two' isn't a number of seats"),
     ("2025-03-01,2025-03-07,,1", "line 2: it names no product"), ("", "has no request below its headings"),
     ("2025-03-01,2025-03-07,P,1000", "P was asked for 1000 seats for 2025-03-07, and a row of demand takes 999")]
 REFUSED_WORDS = {  # a part of the sentence, of a log that is good
-    "wants a column and one text or more": "--cuts 7 --without seats",
+    "needs a column and at least one text": "--cuts 7 --without seats",
     "has no column state; its headings are": "--cuts 7 --without state x",
     "has no request below its headings": "--cuts 7 --without seats 2 1",
-    "each is to be fewer days": "--cuts 7,30",
-    "days before departure are wanted": "--cuts week",
+    "each must be fewer days": "--cuts 7,30",
+    "these must be days before departure": "--cuts week",
     "21 periods, and a network file takes 16": f"--cuts {','.join(map(str, range(40, 20, -1)))}",
     "takes 1 to 32 histories": "--cuts 7 --last 33",
     "has no column Pax; its headings are Booked on, Departure, Fare product, Seats": "--cuts 7 --seats Pax"}
@@ -35,12 +35,12 @@ OPEN_QUOTES = [  # remarks by their lines, more words, and a part of the sentenc
     ({31: '"see mail', 550: 'said "yes"'}, [], "line 31 can't be read: a quote is opened in it and isn't closed in it"),
     ({31: '"see mail', 550: '"yes"'}, [], "line 31 can't be read: a quote is opened in it and isn't closed in it"),
     ({31: '"two\nlines"'}, [], "line 31 can't be read: a quote is opened in it and isn't closed in it"),
-    ({31: '"two\rlines"'}, [], "--multiline takes fields with line feeds"),
+    ({31: '"two\rlines"'}, [], "--multiline allows fields with line feeds"),
     ({601: '"see mail'}, [], "line 601 can't be read: a quote is opened in it and isn't closed in it"),
     ({31: '"see" mail'}, [],
-     "line 31 can't be read: a quote is opened and closed in it and more text stands behind it"),
+     "line 31 can't be read: a quote is opened and closed in it and more text follows it"),
     ({31: '"see mail'}, ["--multiline"],
-     "line 31 can't be read: a quote is opened and closed in it, in line 32, and more text stands"),
+     "line 31 can't be read: a quote is opened and closed in it, in line 32, and more text follows"),
     ({601: '"see mail'}, ["--multiline"], "line 601 can't be read: a quote is opened in it that is closed nowhere")]
 
 
@@ -65,8 +65,8 @@ class Refusals(PlaceTest):
         good = self.file("good.csv", HEADS + GOOD)
         for it in LONG:
             log = self.file("log.csv", f"{HEADS}{GOOD}2025-03-01,2025-03-07,P,{it}\n")
-            self.stopped("log", log, *CUT_ONCE, says="' is no number of seats\n")
-            self.stopped("log", good, *COLUMNS, "--cuts", f"{it},7", says="days before departure are wanted")
+            self.stopped("log", log, *CUT_ONCE, says="' isn't a number of seats\n")
+            self.stopped("log", good, *COLUMNS, "--cuts", f"{it},7", says="these must be days before departure")
             self.stopped("log", good, *CUT_ONCE, "--last", it, status=2)
 
 

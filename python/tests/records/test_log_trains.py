@@ -48,9 +48,9 @@ class Exports(ExportTest):
     def test_a_train_of_some_days_is_told(self) -> None:
         """One that has ended and no other that begins; one that departs now and then; none where all do each day."""
         trains = {"1": FRIDAYS[:2], "2": [FRIDAYS[0], FRIDAYS[3]], "3": FRIDAYS}
-        self.want_in(self.read_of(trains)[1], "trains that depart on some of the 4 days alone 2, and have no demand in "
-                     "the other seasons: 1 on 2, to 2025-04-11, 2 on 2\n")
-        self.assertNotIn("depart on some", self.read_of({"1": FRIDAYS, "2": FRIDAYS})[1])
+        self.want_in(self.read_of(trains)[1], "trains that depart on only some of the 4 days, and have no demand in "
+                     "the other seasons: 2, 1 on 2, to 2025-04-11, 2 on 2\n")
+        self.assertNotIn("depart on only some", self.read_of({"1": FRIDAYS, "2": FRIDAYS})[1])
 
     def test_days_that_are_no_season_dont_count(self) -> None:
         trains = {"571": FRIDAYS[:2], "9": FRIDAYS}
@@ -63,8 +63,8 @@ class Exports(ExportTest):
                      says="--same 1 2: 1 and 2 depart on 2025-04-11, in lines 4 and 6; so they are two trains\n")
         self.stopped("log", *words, "--train", "Train", "--same", "1", "4",
                      says="--same 4: no row is of that train; there are 1, 2\n")
-        self.stopped("log", *words, "--train", "Train", "--same", "1", says="--same wants two names of a train or more")
-        self.stopped("log", *words, "--same", "1", "2", says="--same wants the column of the train")
+        self.stopped("log", *words, "--train", "Train", "--same", "1", says="--same needs at least two names of a train")
+        self.stopped("log", *words, "--same", "1", "2", says="--same needs the column of the train")
 
 
 class Logs(WithinTest):

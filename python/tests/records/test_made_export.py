@@ -36,12 +36,12 @@ class Made(ExportTest):
         self.assertEqual(status, 0, err)
         rows = int(put_in["rows"])
         for wanted in (f"rows read {rows} of {rows + 4} lines; down to the headings 3, empty 0, ",
-                       f"rows that are there twice {put_in['twice']}, which count once: line",
+                       f"rows that occur twice, which count once: {put_in['twice']}, line",
                        f"left out: line {put_in['quote in line']} can't be read: a quote is opened in it",
                        f"left out: line {put_in['total in line']}: it has no day of departure\n",
                        f"days between without one: {put_in['departure on']}"):
             self.want_in(err, wanted)
-        alone = re.findall(r"as many seats ([0-9]+), which don't count", err)[0]
+        alone = re.findall(r"which don't count: ([0-9]+), ", err)[0]
         self.assertGreaterEqual(int(alone), int(put_in["alone"]), "and that of the booking with the quote, if any")
         path = self.file("network.csv", out)
         network = Network.read(path)

@@ -24,9 +24,9 @@ class Names(PlaceTest):
 
     def test_a_list_that_is_none_is_refused_with_its_line(self) -> None:
         log = self.file("log.csv", HEADS + "2025-03-01,2025-03-07,new_one,1\n")
-        for names, sentence in (("A,a\n", "its first row is to be `name,stands for`"), ("", "its first row is to be"),
-                                ("name,stands for\nA,a\nA,b\n", "line 3 is to have a name of its own"),
-                                ("name,stands for\nA,a\nB,a\n", "line 3 is to have"),
-                                ("name,stands for\nb,a\n", "line 2 is to have"),
-                                ("name,stands for\nB\n", "line 2 is to have")):
+        for names, sentence in (("A,a\n", "its first row must be `name,stands for`"), ("", "its first row must be"),
+                                ("name,stands for\nA,a\nA,b\n", "line 3 must have a name of its own"),
+                                ("name,stands for\nA,a\nB,a\n", "line 3 must have"),
+                                ("name,stands for\nb,a\n", "line 2 must have"),
+                                ("name,stands for\nB\n", "line 2 must have")):
             self.stopped("log", log, *CUT_ONCE, "--names", self.file("names.csv", names), says=sentence)

@@ -36,10 +36,10 @@ demand,ZV-Q,2,1,1,1
 """
 
 FAULTS_OF_MANY = [  # the row, the cause, the line of the editor, the field, and a part of the advice
-    (1, "1 kind", 1, "field 1, the kind: Heading", "no heading row"), (2, "3 fields", 3, None, "padded it with commas"),
+    (1, "1 kind", 1, "field 1, the kind: Heading", "can't have a row of headings"), (2, "3 fields", 3, None, "padded it with commas"),
     (3, "7 range", 4, "field 3, the seats: 1020", "0 to 999"),
     (4, "5 name", 5, "field 2, the name: lh454_27Nov", "LH454-27NOV"),
-    (5, "1 kind", 6, "field 1, the kind: # remark", "no remarks"),
+    (5, "1 kind", 6, "field 1, the kind: # remark", "can't have comments"),
     (6, "6 number", 7, "field 3, the fare: 1,250", "1250"),
     (7, "6 number", 8, "field 3, the fare: 110.50", "round it"),
     (8, "9 missing", 9, "field 4, leg 1: ZRH-VEI", "is it ZRH-VIE of line 4?"),
@@ -71,28 +71,28 @@ FAULTS_TOLD_OF_VERSION_2 = [  # the row, the cause, the field, and a part of the
     (1, "1 kind", "field 1, the kind: refund", "the row of periods comes first: move up line 2"),
     (2, "6 number", "field 4, the version: 02", "write 2"),
     (3, "3 fields", None, "takes leg,NAME,SEATS,AUTHORISED and up to 9 thresholds, since line 2 says version 2"),
-    (4, "7 range", "field 4, the authorised seats: 1090", "it is to be 0 to 999; is it a threshold?"),
+    (4, "7 range", "field 4, the authorised seats: 1090", "it must be 0 to 999; is it a threshold?"),
     (5, "10 thresholds", "field 6, threshold 2: 90", "below 90"),
     (6, "6 number", "field 4, the authorised seats: 09", "write 9"),
     (9, "6 number", "field 3, the percentage: 33.5", "write a whole number, a percentage: round it"),
     (10, "6 number", "field 3, the percentage: 33%", "write digits alone: 33"),
     (11, "9 missing", "field 2, the product: ZV-M", "line 17, below, makes it"),
-    (12, "7 range", "field 3, the percentage: 120", "it is to be 0 to 100"),
+    (12, "7 range", "field 3, the percentage: 120", "it must be 0 to 100"),
     (13, "1 kind", "field 1, the kind: Refund", "write refund, in lower case"),
     (14, "3 fields", None, "takes refund,PRODUCT,PERCENTAGE"),
     (15, "5 name", "field 2, the product: zv_q", "write ZV-Q"),
-    (16, "1 kind", "field 1, the kind: fare", "none of periods, leg, product, refund and demand")]
+    (16, "1 kind", "field 1, the kind: fare", "one of periods, leg, product, refund and demand")]
 
 TWO_VERSIONS = [  # a file, and the first advice
     ("periods,1,1\nleg,AB,9,12,300,100\nproduct,P,5,AB\n",
-     "if 12 are authorised seats, the file is to be of version 2, with ,2 at the end of line 1"),
+     "if 12 are authorised seats, the file must have version 2, with ,2 at the end of line 1"),
     ("periods,1,1\nleg,AB,9\nproduct,P,5,AB\nrefund,P,50\n",
      "a file of version 1 has no refunds: make it version 2, with ,2 at the end of line 1"),
     ("periods,1,1\nleg,AB,9\nproduct,P,5,AB\nRefund,P,50\n", "a file of version 1 has no refunds"),
-    ("periods,1,1,1\nleg,AB,9\nproduct,P,5,AB\n", "it is to be 2, or left out for version 1"),
-    ("periods,1,1,\nleg,AB,9\nproduct,P,5,AB\n", "a number is wanted; where the row ends in commas"),
+    ("periods,1,1,1\nleg,AB,9\nproduct,P,5,AB\n", "it must be 2, or be left out for version 1"),
+    ("periods,1,1,\nleg,AB,9\nproduct,P,5,AB\n", "a number is missing; if the row ends in commas"),
     ("periods,1,1,,\nleg,AB,9,,\nproduct,P,5,AB,\n", "a spreadsheet padded it"),
-    ("periods,1,1,3\nleg,AB,9,9\nproduct,P,5,AB\nrefund,P,0\n", "it is to be 2, or left out"),
+    ("periods,1,1,3\nleg,AB,9,9\nproduct,P,5,AB\nrefund,P,0\n", "it must be 2, or be left out"),
     ("periods,1,1,2\nleg,AB,9,9\nproduct,P,5,AB\nrefund,P,50\nrefund,P,100\n",
      "line 4 has the refund of P: delete one of the two"),
     ("leg,AB,9,9\nproduct,P,5,AB\nrefund,P,50\n",
@@ -218,8 +218,8 @@ class ExplainedRows(WithinTest):
         self.assertEqual(re.findall("^refused row (.*)", out, re.M),
                          [f"{it} why 1 kind" for it in (1, 2, 3, 4, 5, 6, 8, 9)])
         self.assertEqual(re.findall("^        (.{12})", out, re.M),
-                         ["a file has n", "a file has n", "write period", "write leg, i", "write leg, i",
-                          "it is none o", "the fields a", "write leg, i"])
+                         ["a network fi", "a network fi", "write period", "write leg, i", "write leg, i",
+                          "it must be o", "the fields a", "write leg, i"])
         for heads, wanted in (("Period,Legs\n", ["1 why 1 kind"]), ("Period,Legs\nperiods,1,1\n", ["1 why 1 kind"]),
                               ("Leg,Name\n", ["1 why 1 kind", "2 why 2 order"])):
             out = self.ran("explain", self.file("heads.csv", f"{heads}leg,A,5\nproduct,P,5,A\n")).out

@@ -19,8 +19,8 @@ from nrm.seasons.verdicts import verdict
 from records.made_export import BOOKINGS, COLUMNS, FARES, STOPS, ExportTest
 from seasons.made_results import results_of
 
-TOO_MUCH = ("as joined, what stood takes up to 7 of 5 seats of Aachen - Cassel, in 1 of 2 seasons; 224 a season was "
-            "earned, at these fares")
+TOO_MUCH = ("as joined, the bookings that stood take up to 7 of 5 seats of Aachen - Cassel, in 1 of 2 seasons; "
+            "they earned 224 a season at these fares")
 OTHER = "a journey from or to a stop that is joined takes a seat on all of the leg, so this is another train"
 BUT = ("But the leg AAC-CAS was joined at Bonn: a journey from or to there takes a seat on all of it, and in {} up to "
        "7 seats are asked for of its 5. What ran may have sold them all, so these amounts and the bound are of another "
@@ -58,9 +58,9 @@ class Joined(ExportTest):
         """Five seats from Bonn to Cassel were sold on 7 March."""
         self.file("seats.csv", "Aachen-Bonn,8\nBonn-Cassel,4\n")
         words = [self.export(), *COLUMNS, *STOPS, *FARES, "--seats-of", "seats.csv"]
-        self.want_in(self.ran("log", *words).err, "what stood takes up to 5 of 4 seats of Bonn - Cassel, in 1 of 2 "
+        self.want_in(self.ran("log", *words).err, "the bookings that stood take up to 5 of 4 seats of Bonn - Cassel, in 1 of 2 "
                      "seasons: so more than these may be sold, or the leg has other seats than the file says\n")
-        self.assertNotIn("what stood", self.read().err)
+        self.assertNotIn("bookings that stood", self.read().err)
 
     def test_an_end_of_the_line_joins_nothing(self) -> None:
         """Which is told, of those trains alone that end there if it is within another."""

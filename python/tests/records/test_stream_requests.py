@@ -26,10 +26,10 @@ class Streams(WithinTest):
         err = self.ran("asked", self.network, self.file("s", stream)).err
         path = self.folder / "s"
         self.assertEqual(err.splitlines(), [
-            f"nrm-tools asked: {path}: requests 2, seats 3; cancellations passed over 1",
-            f"nrm-tools asked: {path}: seats left out 5, of products that the network hasn't: NONE, OTHER",
-            f"nrm-tools asked: {path}: lines left out 2, which are none of a session; the first is line 2",
-            f"nrm-tools asked: {path}: lines `reoptimise` passed over 1, which begin no later period of the "
+            f"nrm-tools asked: {path}: requests 2, seats 3; cancellations ignored 1",
+            f"nrm-tools asked: {path}: seats left out 5, of products that the network doesn't have: NONE, OTHER",
+            f"nrm-tools asked: {path}: lines left out 2, which no session takes; the first is line 2",
+            f"nrm-tools asked: {path}: lines `reoptimise` ignored 1, which begin no later period of the "
             "network; the first is line 5"])
 
     def test_lines_that_changed_nothing_are_not_counted_in_silence(self) -> None:

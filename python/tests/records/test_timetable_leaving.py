@@ -140,7 +140,7 @@ class Told(PlaceTest):
         self.assertEqual(out.splitlines()[:3], [
             "1 file has all 21 products of trains.csv; `nrm` refuses those over more than 4 legs, 3 in all.", "",
             "products over more than 4 legs, which no file takes: L1-5, L2-6, L1-6; docs/network-file.md, 'Why the "
-            "limits', tells of ways"])
+            "limits', describes ways out"])
         self.nrm("print", "parts/part-1.csv", status=3)
         self.file("list.csv", "L1-5\nL2-6\nL1-6\n")
         self.assertEqual(self.split("--leave-out", "list.csv")[1], 0)

@@ -19,7 +19,7 @@ class Parts(PlaceTest):
     def test_cuts_where_no_product_joins(self) -> None:
         rows, legs = made_timetable(random.Random(2), [30, 64, 1, 25])
         out = self.told("split", self.file("timetable.csv", text_of([*rows, ["leg", "IDLE", 7]])), "parts")
-        self.want_in(out, "the leg IDLE is in no file")
+        self.want_in(out, "the leg IDLE has no product, and is in no file")
         self.assertEqual(out.splitlines()[0], f"4 files have all 120 products of {self.folder}/timetable.csv.")
         files = sorted((self.folder / "parts").glob("part-*.csv"))
         parts = [Network.read(it) for it in files]
@@ -46,7 +46,7 @@ class Parts(PlaceTest):
         for sizes, wanted in (([2, 3, 4], []), ([2, 3], ["part-3.csv"]), ([2, 3, 1], [])):
             rows, _ = made_timetable(random.Random(5), sizes)
             out = self.told("split", self.file("timetable.csv", text_of(rows)), "parts")
-            self.assertEqual(re.findall("^parts/(.*): not of this timetable", out, re.M), wanted)
+            self.assertEqual(re.findall("^parts/(.*) isn't of this timetable", out, re.M), wanted)
 
     def test_names_what_is_too_large(self) -> None:
         rows, legs = made_timetable(random.Random(6), [65, 3])

@@ -105,7 +105,7 @@ class Averages(PlaceTest):
 
     def test_it_tells_writes_and_compares(self) -> None:
         out = self.told("averaged", LOG, "--out", "kept", "--seasons", 5, "--leave-out", *self.with_program)
-        self.want_in(out, "\nkept/history-1.txt to history-3.txt: each is optimal for the file beside it\n")
+        self.want_in(out, "\nkept/history-1.txt to history-3.txt: each certificate is optimal for the file beside it\n")
         self.want_in(out, "averaged less davn")
         first, second, *_ = out.splitlines()
         self.assertRegex(first, r"^(averaged|davn|bid) .*averaged.*, with these thresholds and demand drawn so\.$")
@@ -148,7 +148,7 @@ class Beside(SimulateTest):
         more = self.file("more.csv", Path(LOG).read_text().replace("leg,ZRH-VIE,8,", "leg,ZRH-VIE,9,"))
         out = self.simulated(LOG, more, "--seasons", 4, "--averaged", "--modes", "bid", "--workers", 2, "--show", "0.9",
                              "--denied-cost", 5)
-        self.want_in(out, "What a network earns more than another under averaged on the same draws")
+        self.want_in(out, "What one network earns more than another under averaged on the same draws")
         self.want_in(out, "more averaged less bid")
         self.stopped("simulate", LOG, "--seasons", 2, "--averaged", "--cancel", "0.1", status=2, timeout=SECONDS,
-                     says="--cancel isn't played by averaged prices")
+                     says="--cancel can't be used with --averaged")

@@ -166,7 +166,7 @@ class OwnWorkers(SimulateTest):
         [worker] = [it for it, words in processes_of(run.pid).items() if "spawn_main" in words]
         os.kill(worker, signal.SIGSTOP)
         err = self.told_by_a_line(run, "no seasons have come back for 12 s: is a worker stopped")
-        self.want_in(err, "nrm-tools simulate: no seasons have come back for 6 s; they are waited for up to 12 s\n")
+        self.want_in(err, "nrm-tools simulate: no seasons have come back for 6 s; the run waits up to 12 s\n")
         wait_for(lambda: not has_group(run.pid), "the end of its processes")
 
     def test_another_account_of_the_machine_is_refused(self) -> None:

@@ -130,7 +130,7 @@ class Pages(SimulateTest):
         self.file("tables/network-seasons.csv", by_one_process(self.program, LOG, Settings(), 8))
         done = self.ran("simulate", LOG, "--seasons", 8, "--out", "tables", *self.with_program, timeout=SECONDS)
         self.assertEqual(done.status, 0, done.err)
-        self.want_in(done.err, "nrm-tools simulate: no pictures and no page, since ")
-        self.want_in(done.out, "What a mode earns more than another on the same requests")
+        self.want_in(done.err, "nrm-tools simulate: there are no pictures and no page, since ")
+        self.want_in(done.out, "What one mode earns more than another on the same requests")
         self.assertEqual(sorted(it.name for it in (self.folder / "tables").iterdir()),
                          ["network-seasons.csv", "settings.json", "summary.txt"])

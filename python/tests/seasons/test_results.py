@@ -83,7 +83,7 @@ class Told(SimulateTest):
         for mode in ("first", "davn"):
             differences = [int(y["earned"]) - int(x["earned"]) for x, y in zip(a, b) if x["mode"] == mode]
             mean, half = sum(differences) / 9, 1.96 * spread(differences)
-            pairs = out.partition(f"What a network earns more than another under {mode} on the same draws")[2]
+            pairs = out.partition(f"What one network earns more than another under {mode} on the same draws")[2]
             self.want_in(" ".join(pairs.split()), f"changed less as-it-is {mean:,.1f} {spread(differences):,.1f} "
                          f"{mean - half:,.1f} {mean + half:,.1f}")
         self.want_in(self.stopped("simulate", paths[0], "--seasons", 9, "--out", "two", "--modes", "first", "davn",
@@ -106,5 +106,5 @@ class Files(SimulateTest):
     def test_what_isnt_a_file_of_rows_is_told(self) -> None:
         for text in ("", "season,mode\n", "season,mode,bound,earned,revenue\n0,first,1.0000," + "9" * 4301 + ",1\n",
                      "season,mode,bound,earned,revenue\n0,first,1.0000," + "9" * 30 + ",1\n", Path(LOG).read_text()):
-            with self.assertRaisesRegex(Stop, "is no file of rows that simulate wrote"):
+            with self.assertRaisesRegex(Stop, "isn't a file of rows that simulate wrote"):
                 Results.read(self.file("rows.csv", text))

@@ -88,7 +88,7 @@ class Searches(PlaceTest):
         self.assertEqual(units_of(self.network, []), [("A-1",), ("A-2",), ("B",), ("IDLE",)])
         self.assertEqual(units_of(self.network, [["A-*"]]), [("A-1", "A-2"), ("B",), ("IDLE",)])
         self.assertEqual(self.searched(hill, [["A-*"]]), {"A-1": 13, "A-2": 13, "B": 31, "IDLE": 5})
-        for together, wanted in (([["A-1", "B"]], "A-1, B haven't as many seats"), ([[]], "haven't as many"),
+        for together, wanted in (([["A-1", "B"]], "A-1, B have different numbers of seats"), ([[]], "have different numbers"),
                                  ([["C"]], "C names no leg"), ([["A-1"], ["A-*"]], "names A-1 twice")):
             with self.assertRaisesRegex(Stop, wanted):
                 units_of(self.network, together)
@@ -209,7 +209,7 @@ class Command(PlaceTest):
                 (["--show", "0"], 2, "above 0"), (["--show", "1.1"], 2, "--show"), (["--show", "1e-9"], 2, "--show"),
                 (["--show", "9" * 4301], 2, "--show"), (["--show", "1/0"], 2, "--show"),
                 (["--show", "0.9", "--together", "NONE"], 1, "names no leg"),
-                (["--show", "0.9", "--together"], 1, "haven't as many seats"),
+                (["--show", "0.9", "--together"], 1, "have different numbers of seats"),
                 (["--show", "0.9", "--seasons", "1"], 2, "--seasons"),
                 (["--show", "0.9", "--out", self.file("one", "")], 1, "is a file")):
             self.stopped("authorise", LOG, "--denied-cost", 5, *words, *self.with_program, status=status, says=wanted)

@@ -99,8 +99,8 @@ class Courses(PlaceTest):
         for blinded in (["matplotlib"], ["matplotlib", "jinja2"]):
             err = self.ran("season", *self.words("log"), env=self.blind(*blinded)).err
             without = [it for it in BLINDED if it in blinded or not is_there(it)]
-            made = "no pictures and no page" if len(without) > 1 else "no pictures"
-            self.want_in(err, f"nrm-tools season: {made}, since {sys.executable}, the Python that was asked, has no "
+            made = "there are no pictures and no page" if len(without) > 1 else "there are no pictures"
+            self.want_in(err, f"nrm-tools season: {made}, since {sys.executable}, the Python that runs this, has no "
                               f"{' and no '.join(without)}; ")
             for library in without:
                 self.want_in(err, f"python3-{library}")

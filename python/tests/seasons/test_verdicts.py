@@ -27,7 +27,7 @@ class OfModes(unittest.TestCase):
         study = study_of({"N": {"first": [500, 500, 500], "bid": [900, 900, 900], "davn": [1000, 1002, 998]}})
         self.assertEqual(verdict(study), "davn earns 100.0 a season more than bid, between 97.7 and 102.3 at 95 per "
                          "cent, and 500.0 more than first" + SO)
-        table = next(it for it in study.tables() if it.title.startswith("What a mode earns more"))
+        table = next(it for it in study.tables() if it.title.startswith("What one mode earns more"))
         self.assertEqual(table.cells()[2], ["davn less bid", "100.0", "1.2", "97.7", "102.3", "100.0 %", "0.0 %"])
 
     def test_what_cant_be_told_apart(self) -> None:
@@ -53,7 +53,7 @@ class OfNetworks(unittest.TestCase):
                          "season more than A, between 28.1 and 35.9 at 95 per cent. Under bid all earn the same in "
                          "each season.")
         tables = {it.title: it.cells() for it in study.tables()}
-        title = "What a network earns more than another under davn on the same draws, in currency units a season"
+        title = "What one network earns more than another under davn on the same draws, in currency units a season"
         self.assertEqual(tables[title], [["B less A", "32.0", "2.0", "28.1", "35.9", "100.0 %", "0.0 %"]])
 
     def test_more_than_two(self) -> None:
@@ -89,5 +89,5 @@ class OfNetworks(unittest.TestCase):
         for count, wanted in ((MOST_PAIRED, 1), (MOST_PAIRED + 1, 0)):
             study = study_of({f"N{it}": {"bid": [700 + it, 600]} for it in range(count)})
             titles = [it.title for it in study.tables()]
-            self.assertEqual(sum(it.startswith("What a network earns more") for it in titles), wanted)
+            self.assertEqual(sum(it.startswith("What one network earns more") for it in titles), wanted)
             self.assertEqual(sum(it.startswith("What is earned under bid") for it in titles), 1)

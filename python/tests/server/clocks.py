@@ -1,5 +1,5 @@
 """What the tests of the clock stand on: a journal with networks whose lines and times are put into it as they are
-wanted, and a hall of which the clock is handed in, and that remembers what it was asked."""
+wanted, and in the place of a server what has the clock's clients come, and remembers what they ask."""
 from __future__ import annotations
 
 from pathlib import Path
@@ -10,12 +10,13 @@ from nrm.journal.networks import open_network
 from nrm.journal.sqlite_tables import begin, opened, using
 from nrm.journal.sqlite_writing import SqliteWriter
 from nrm.journal.stores import Opened
-from nrm.server.clients import Client, ClientLimits
+from nrm.server.clients import Client, ClientLimits, Reception
 from nrm.server.clock import Clock
 from nrm.server.counters import Counters
 from nrm.server.event_log import shown, text_of
 from nrm.server.loop import Loop
 from nrm.server.own_client import Own
+from nrm.server.tokens import Tokens
 from server.servers import ServerTest
 
 PLAN = b"value %d/1\nproduct LOC 1/1\nleg AB %d/1\nleg BC 7/2\n\n"
@@ -32,24 +33,22 @@ class Events:
         self.lines.append(f"{event} {text_of({name: shown(it) for name, it in fields.items()})}")
 
 
-class Hall:
-    """In the place of a server."""
+class Arrivals:
+    """In the place of those who have clients come; and the journal, and what else the clock needs of a server."""
 
     def __init__(self, path: Path) -> None:
         self.reader, self.writer = opened(str(path)), SqliteWriter(str(path), "p")
-        self.loop, self.limits = Loop(), ClientLimits()
+        self.loop, self.events = Loop(), Events()
         self.clients: set[Client] = set()
         self.in_writing: list[object] = []
-        self.counters, self.events, self.stops = Counters(), Events(), False
-        self.answers = True
+        self.owning, self.answers = self, True
         self.sent: list[tuple[str, bytes, Own]] = []
+        self.reception = Reception(self.loop, self.events, Counters(), ClientLimits(), Tokens(self.events.tell),
+                                   self.enter, self.clients.discard, bytes)
 
     def enter(self, client: Client, network: str | None, data: bytes) -> None:
         assert network and isinstance(client, Own)
         self.sent.append((network, data, client))
-
-    def leave(self, client: Client) -> None:
-        self.clients.discard(client)
 
     def is_answered(self, network: Opened) -> bool:
         return self.answers
@@ -76,10 +75,10 @@ class ClockTest(ServerTest):
                 if times:
                     self.set(number, times)
             connection.execute("UPDATE network SET begun = ?", [1000 * SECOND])
-        self.hall = Hall(self.path)
-        self.addCleanup(self.hall.close)
-        self.seconds = 1000.0
-        self.clock = Clock(self.hall, every, lambda: self.seconds)
+        self.seconds, made = 1000.0, Arrivals(self.path)
+        self.addCleanup(made.close)
+        self.arrivals = made
+        self.clock = Clock(made.loop, made.events, made.reader, made, made, every, lambda: self.seconds)
 
     def set(self, network: int, times: Times) -> None:
         """Sets times, as another process does."""
@@ -88,7 +87,7 @@ class ClockTest(ServerTest):
 
     def row(self, line: str, reply: str, network: int = 1, desk: str = "D1") -> None:
         """Writes a line at this second, as the server does."""
-        connection = self.hall.writer.connection
+        connection = self.arrivals.writer.connection
         [number] = connection.execute("SELECT lines + 1 FROM head WHERE network = ?", [network]).fetchone()
         connection.execute("INSERT INTO line VALUES (?, ?, 1, ?, ?, ?, ?, ?)",
                            [network, number, desk, number, int(SECOND * self.seconds), line, reply])
@@ -97,31 +96,31 @@ class ClockTest(ServerTest):
     def at(self, seconds: float) -> list[tuple[str, int]]:
         """What is asked as the clock says so many seconds, one after it did so last: names, and periods."""
         self.seconds = seconds
-        self.hall.loop.now += 1
-        before = len(self.hall.sent)
+        self.arrivals.loop.now += 1
+        before = len(self.arrivals.sent)
         self.do(self.clock.look)
-        return [(name, period_in(data)) for name, data, _ in self.hall.sent[before:]]
+        return [(name, period_in(data)) for name, data, _ in self.arrivals.sent[before:]]
 
     def do(self, *calls: object) -> None:
         """Does something, and what is put off until then."""
         for call in calls:
             call()
-        self.hall.loop.do_what_is_due()
+        self.arrivals.loop.do_what_is_due()
 
     def told(self) -> list[str]:
         """What was told since this was asked last."""
-        lines, self.hall.events.lines = self.hall.events.lines, []
+        lines, self.arrivals.events.lines = self.arrivals.events.lines, []
         return lines
 
     def answer(self, reply: str = "optimised 5/1", why: str | None = None, whole: bool = True, at: int = -1) -> None:
         """Answers what was sent last, a third of a second later, or has it closed before the reply came."""
-        name, data, own = self.hall.sent[at]
+        name, data, own = self.arrivals.sent[at]
         own.put(b"at 1\n" + PLAN % (9, 4))
         if not why:
             if reply.startswith(("optimised", "overflow", "unknown")):
-                [[network]] = self.hall.reader.execute("SELECT network FROM network WHERE name = ?", [name])
+                [[network]] = self.arrivals.reader.execute("SELECT network FROM network WHERE name = ?", [name])
                 self.row(f"reoptimise {period_in(data)}", reply, network, "CLOCK")
-            self.hall.loop.now += 1 / 3
+            self.arrivals.loop.now += 1 / 3
             own.put(reply.encode() + b"\n")
             own.put(PLAN % (5, 6) if whole else b"value 5/1\nproduct")
         self.do(lambda: own.finish(why))

@@ -6,7 +6,8 @@ from trials.mistakes import BLIND, LOST, TWICE, Edit, Form
 
 COMMITS, LOOKING, TABLES, STANDING, WRITING = (
     f"nrm/journal/{it}.py" for it in ("commits", "looking", "sqlite_tables", "plans_due", "sqlite_writing"))
-HALL, SERVING, SESSIONS = (f"nrm/server/{it}.py" for it in ("hall", "serving", "sessions"))
+ARRIVALS, GROUPING, HALTS, PROGRAMS, RELAY, SERVING, SESSIONS = (f"nrm/server/{it}.py" for it in (
+    "arrivals", "group_commit", "halts", "programs", "relay", "serving", "sessions"))
 OF_MOMENTS, OF_PROMISES = "server.test_moments.Moments", "server.test_promises.Promises"
 OF_SESSIONS = "server.test_sessions.Places"
 OF_FILES = "server.test_hands.Files"
@@ -40,11 +41,11 @@ def form(place: str, told: str, *edits: Edit, program: str = "", more: tuple[str
 
 
 FORMS = {
-    "the reply goes out before the commit": form("force,full", LOST, (HALL, """        if not self.in_writing:
-            self.loop""", """        session.kept(rows.count(b"\\n"))
-        if not self.in_writing:
-            self.loop"""), (HALL, """                session.kept(given.rows.count(b"\\n"))
-""", """                pass
+    "the reply goes out before the commit": form("force,full", LOST, (SESSIONS, """self.written))
+""", """self.written))
+        self.kept(given.count())
+"""), (SESSIONS, """            self.kept(given.count())
+""", """            pass
 """)),
     "a commit isn't forced to the disk": form("power", LOST,
         (TABLES, "PRAGMA synchronous = FULL", "PRAGMA synchronous = NORMAL")),
@@ -75,15 +76,15 @@ FORMS = {
     "there is no lock": form("second", "a second server wasn't refused",
         (WRITING, "        fcntl.flock(file, fcntl.LOCK_EX | fcntl.LOCK_NB)\n", "")),
     "a look is answered by who has lost the journal": form("asleep", UNTRUE,
-        (HALL, "if not rows and self.writer.is_still(given):", "if not rows:")),
+        (SESSIONS, "if not rows and self.commits.writer.is_still(given):", "if not rows:")),
     "who has lost the journal halts a network": form(
         f"{OF_MOMENTS}.test_one_that_reads_while_another_writes_halts_nothing", "AssertionError: .*halted",
-        (HALL, "            if head_of(tables, number)[0] != epoch:\n", "            if False:\n")),
+        (HALTS, "            if head_of(tables, number)[0] != epoch:\n", "            if False:\n")),
     "sent again is carried out again": form("server", TWICE,
         (TABLES, "number || char(9) || desk || char(9) || sequence || char(9)",
          "number || char(9) || 'AGAIN' || char(9) || number || char(9)")),
     "the journal isn't given again": form("server", r"halted: .* was given out|closed halted",
-        (HALL, "        self.run_program(session, file, rows, BEGINS)\n",
+        (PROGRAMS, "        self.run_program(session, file, rows, BEGINS)\n",
          "        self.run_program(session, file, iter(()), BEGINS)\n"),
         (SESSIONS, "        if rows != self.lines:\n", "        if False:\n")),
     "replies aren't compared when the journal is given again": form("changed", NOT_HALTED, program=BLIND),
@@ -93,7 +94,7 @@ FORMS = {
         (SESSIONS, "        if rows != self.lines:\n", "        if False:\n")),
     "another program isn't told from the one that it began with": form("version",
         r"another version of the program has written|closed halted|halted: ",
-        (HALL, "return network.program == self.answering.checksum or is_free", "return True or is_free")),
+        (PROGRAMS, "return network.program == self.answering.checksum or is_free", "return True or is_free")),
     "rows are given again in the order of their times": form("clock", "closed halted|halted: ",
         (TABLES, "ORDER BY number LIMIT ?", "ORDER BY at, number LIMIT ?")),
     "a plan that was made isn't looked for in the journal": form("server", r"CLOCK asks for period \d after",
@@ -115,7 +116,7 @@ FORMS = {
         shutil.copy(path, place)
 """), more=("--copies", "3")),
     "lines that were taken aren't answered at the end": form(f"{OF_MOMENTS}.test_what_was_taken_is_answered_at_the_end",
-        "AssertionError: .* != ", (HALL, """                client.leave("stopping")
+        "AssertionError: .* != ", (RELAY, """                client.leave("stopping")
 """, """                client.finish("stopping")
 """)),
     "who comes overtakes what is held of the last one at its place": form("program",
@@ -129,7 +130,7 @@ FORMS = {
         (SESSIONS, *STAYS)),
     "a program that is slow keeps others waiting": form(
         f"{OF_MOMENTS}.test_a_network_that_is_slow_keeps_no_other_waiting", "timed out",
-        (HALL, "BEGIN_AT_ONCE = 2", "BEGIN_AT_ONCE = 1")),
+        (PROGRAMS, "BEGIN_AT_ONCE = 2", "BEGIN_AT_ONCE = 1")),
     "a refused row is counted all the same": form(
         f"{OF_JOURNALS}.test_a_row_that_isnt_the_next_halts_its_network_and_no_other", r"Lists differ: \[\(1, 4\)",
         (WRITING, """            self.connection.execute("ROLLBACK TO network")
@@ -140,7 +141,8 @@ FORMS = {
         f"{OF_RIGHTS}.test_nothing_is_written_behind_the_end", "AssertionError: .*Denied",
         (WRITING, " AND ended IS ?)", " AND (ended IS ? OR 1))"),
         (WRITING, ".fetchone() == wanted", ".fetchone()[:2] == wanted[:2]"),
-        (HALL, "        if is_idle and self.owning.has_changed(session.network):\n", "        if False:\n")),
+        (RELAY, "            if session.is_idle() and self.owning.has_changed(session.network):\n",
+         "            if False:\n")),
     "rows are put behind lines that the program wasn't given": form(
         f"{OF_PROMISES}.test_lines_that_are_gone_while_it_serves_halt_a_network", r"!= \[b'closed halted",
         (WRITING, "AND epoch = ? AND lines = ?", "AND epoch = ? AND lines <= ?")),
@@ -152,7 +154,7 @@ FORMS = {
         ("nrm/commands/journal.py", "    text = bytes_in(file)\n", "    text = bytes_in(file).rstrip()\n")),
     "the program is looked at only when the server begins": form(
         f"{OF_PROMISES}.test_another_program_in_its_place_answers_nothing", "!= b'closed version",
-        (HALL, "        return now == self.answering.checksum\n", "        return True\n")),
+        (PROGRAMS, "        return now == self.answering.checksum\n", "        return True\n")),
     "what the log has isn't written anew": form(
         f"{OF_SERVING}.test_what_another_server_left_in_the_log_is_written_anew", "AssertionError: 0 != 2",
         (WRITING, """self.connection.execute("PRAGMA wal_checkpoint(TRUNCATE)").fetchone()
@@ -161,10 +163,12 @@ FORMS = {
         "closed program 11.* != b'closed halted",
         (SESSIONS, 'elif kind in (b"differs", b"no"):', 'elif kind == b"differs":')),
     "why a network is halted isn't written": form(f"{OF_SERVING}.test_a_changed_journal_halts_its_network_and_no_other",
-        r"\('one', None\).* != .*row 2", (HALL, "            self.store.halt(number, epoch, told)\n", "")),
+        r"\('one', None\).* != .*row 2",
+        (HALTS, "                self.journal.store.halt(number, epoch, told)\n", "                pass\n")),
     "a network stays halted whatever a person says": form(
-        f"{OF_PROMISES}.test_what_was_halted_is_tried_again_once_a_person_says_so", "b'closed halted.* != b'at 1",
-        (HALL, """            session.network = network
+        f"{OF_PROMISES}.test_what_was_halted_is_tried_again_once_a_person_says_so",
+        "a halt that is written doesn't come",
+        (ARRIVALS, """            session.network = network
         if session.network.halted:
 """, """        if session.network.halted:
 """)),
@@ -172,11 +176,11 @@ FORMS = {
         f"{OF_PROMISES}.test_a_machine_with_too_little_memory_halts_nothing", "closed halted.* != b'closed program 6",
         (SESSIONS, "        status, was = self.wait(), self.state\n", """        status, was = self.wait(), self.state
         if status == 6:
-            self.keeper.halt(self, self.lines + 1, "isn't answered")
+            self.at_halt(self, self.lines + 1, "isn't answered")
 """)),
     "each network has a commit of its own": form(f"{OF_PROMISES}.test_rows_of_all_that_wait_are_written_by_one_commit",
         r"\(5, 5\) != \(5, 2\)",
-        (HALL, "self.in_writing, self.waiting, self.writes_since = self.waiting, [], self.loop.now",
+        (GROUPING, "self.in_writing, self.waiting, self.writes_since = self.waiting, [], self.loop.now",
          "self.in_writing, self.waiting, self.writes_since = self.waiting[:1], self.waiting[1:], self.loop.now")),
     "lines are looked up in the order of their times": form(
         f"{OF_PROMISES}.test_a_clock_that_jumps_back_changes_no_order", "Lists differ",

@@ -1,10 +1,12 @@
-"""In the place of a server: a clock that a test sets, a hall that takes nobody anywhere, a session that takes all."""
+"""In the place of a server: a clock that a test sets, a reception that takes nobody anywhere, a session that takes all.
+"""
 from __future__ import annotations
 
 from typing import Callable
+from unittest import mock
 
 from nrm.server.access import Access, Right, hash_of
-from nrm.server.clients import Client, ClientLimits
+from nrm.server.clients import Client, ClientLimits, Reception
 from nrm.server.counters import Counters
 from nrm.server.tokens import Tokens
 
@@ -37,36 +39,16 @@ class Clock:
 
 
 class House:
-    """A hall in the place of one, which takes nobody to a network."""
+    """What has clients come, and takes none to a network."""
 
     def __init__(self) -> None:
-        self.loop, self.limits, self.counters = Clock(), ClientLimits(slow=5, idle=60), Counters()
-        self.tokens = Tokens(lambda *_, **__: None, Access({HIS.hash: HIS}))
+        self.loop, self.tokens = Clock(), Tokens(lambda *_, **__: None, Access({HIS.hash: HIS}))
         self.entered: list[tuple[Client, str | None, bytes]] = []
         self.left: list[Client] = []
-
-    def enter(self, client: Client, network: str | None, data: bytes) -> None:
-        self.entered.append((client, network, data))
-
-    def leave(self, client: Client) -> None:
-        self.left.append(client)
-
-    def status_text(self) -> bytes:
-        return b"status\n\n"
-
-    def tell_of_closed(self, client: Client, why: str) -> None:
-        self.counters.closed[why] += 1
-
-    def tell_of_unread(self) -> None:
-        self.counters.unread += 1
+        self.reception = Reception(self.loop, mock.Mock(), Counters(), ClientLimits(slow=5, idle=60), self.tokens,
+                                   lambda *it: self.entered.append(it), self.left.append, lambda: b"status\n\n")
 
 
-class Taken:
-    """A session in the place of one, which takes all."""
-    is_full = False
-
-    def give(self, client: Client, data: bytes) -> None:
-        pass
-
-    def part(self, client: Client) -> None:
-        pass
+def let_in(client: Client, data: bytes = b"", part: Callable[[Client], None] = lambda _: None) -> None:
+    """Gives a client a place at a session in the place of one, which takes all."""
+    client.let_in(0, lambda *_: None, part, data)

@@ -142,8 +142,8 @@ class Made(WithinTest):
         self.assertEqual(sorted(os.listdir()), ["desks", "made"], "nothing is left beside them")
         before = Path("desks").read_bytes()
         os.symlink("made", "link")
-        for out, says in (("none/made", "--out none/made: No such file"), (".", "no plain file"),
-                          ("link", "no plain file"), ("./desks", "is the file of desks")):
+        for out, says in (("none/made", "--out none/made: No such file"), (".", "isn't a plain file"),
+                          ("link", "isn't a plain file"), ("./desks", "is the file of desks")):
             self.stopped("token", "desks", "WEB", "look", "--out", out, says=says)
         self.stopped("token", "desks", "WEB", "look", "--out", "", status=2)
         self.stopped("token", "desks", "C-7", "look", "--out", "other", says="--again")

@@ -19,9 +19,9 @@ class Periods(ClockTest):
         self.assertEqual(self.at(1010), [("one", 2)])
         self.set(1, THREE)
         self.assertEqual(self.at(1011), [], "it is being asked")
-        self.assertEqual(len(self.hall.clients), 1)
+        self.assertEqual(len(self.arrivals.clients), 1)
         self.answer()
-        self.assertEqual((self.told(), self.hall.clients), ([CLOCK.format(2)], set()))
+        self.assertEqual((self.told(), self.arrivals.clients), ([CLOCK.format(2)], set()))
         for second, wanted in ((1012, []), (1020, [("one", 3)])):
             self.assertEqual(self.at(second), wanted)
         self.answer()
@@ -68,17 +68,17 @@ class Periods(ClockTest):
         """Four are asked at a time; for the fifth another desk asks meanwhile."""
         self.begun({f"n{at}": THREE for at in range(6)})
         self.assertEqual(len(self.at(1010)), 4)
-        waiting = {f"n{at}" for at in range(6)} - {name for name, _, _ in self.hall.sent}
+        waiting = {f"n{at}" for at in range(6)} - {name for name, _, _ in self.arrivals.sent}
         first = min(waiting)
         self.row("reoptimise 2", "optimised 1/1", int(first[1]) + 1)
         for at in range(4):
             self.answer(at=at)
-        self.assertEqual([name for name, _, _ in self.hall.sent[4:]], [*waiting - {first}])
+        self.assertEqual([name for name, _, _ in self.arrivals.sent[4:]], [*waiting - {first}])
 
     def test_those_that_take_long_keep_no_others_waiting(self) -> None:
         self.begun({f"n{at}": THREE for at in range(6)})
         self.assertEqual([len(self.at(it)) for it in (1010, 1011)], [4, 0])
-        self.hall.loop.now += 60
+        self.arrivals.loop.now += 60
         self.assertEqual(len(self.at(1011)), 2)
 
     def test_where_nothing_is_to_be_done(self) -> None:
@@ -87,7 +87,7 @@ class Periods(ClockTest):
             with self.subTest(why):
                 self.begun({"one": times(1010 if why == "departs" else 1100, [(2, 1005)])})
                 self.at(1000)
-                self.hall.answers, self.hall.stops = why != "other", why == "stops"
+                self.arrivals.answers, self.arrivals.loop.is_ending = why != "other", why == "stops"
                 if why in ("ended", "halted"):
                     with using(str(self.path), is_to_write=True) as connection:
                         connection.execute(f"UPDATE network SET {why} = 1")
@@ -106,7 +106,7 @@ class Periods(ClockTest):
         self.set(1, THREE)
         self.assertEqual(self.at(1010), [("one", 2)])
         self.answer()
-        self.hall.in_writing = [None]
+        self.arrivals.in_writing = [None]
         self.set(2, THREE)
         found = [self.at(1010 + it) for it in range(1, 8)]
         self.assertEqual([it for it in found if it], [[("two", 2)]])
@@ -144,7 +144,7 @@ class Failing(ClockTest):
         self.at(1010)
         self.row("reoptimise 2", "optimised 5/1", desk="CLOCK")
         self.answer(why="program 137")
-        self.hall.loop.now += 100
+        self.arrivals.loop.now += 100
         self.assertEqual(self.at(1011), [])
 
     def test_a_look_that_was_lost(self) -> None:
@@ -157,10 +157,10 @@ class Failing(ClockTest):
     def test_a_journal_that_cant_be_read(self) -> None:
         """Is told, and the clock goes on."""
         self.begun({"one": THREE})
-        self.hall.writer.connection.execute("ALTER TABLE period RENAME TO other")
+        self.arrivals.writer.connection.execute("ALTER TABLE period RENAME TO other")
         self.assertEqual(self.at(1010), [])
         self.assertEqual(self.told(), ['clock-failed why="no such table: period"'])
-        self.hall.writer.connection.execute("ALTER TABLE other RENAME TO period")
+        self.arrivals.writer.connection.execute("ALTER TABLE other RENAME TO period")
         self.assertEqual(self.at(1011), [("one", 2)])
 
 
@@ -204,7 +204,7 @@ class Cost(ClockTest):
     def counted(self) -> list[str]:
         """The statements from here on."""
         statements: list[str] = []
-        for connection in (self.hall.reader, self.hall.writer.connection):
+        for connection in (self.arrivals.reader, self.arrivals.writer.connection):
             connection.set_trace_callback(statements.append)
         return statements
 

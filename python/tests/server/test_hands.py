@@ -20,13 +20,13 @@ PAGE = 4096  # bytes
 LOG = "-wal"
 # what is done to the journal at a path, and a pattern of what the server says then
 HANDS: dict[str, tuple[Callable[[str], object], str]] = {
-    "renamed": (lambda path: os.rename(path, f"{path}.old"), "renamed or taken away"),
-    "taken away": (os.unlink, "renamed or taken away"),
+    "renamed": (lambda path: os.rename(path, f"{path}.old"), "renamed or removed"),
+    "taken away": (os.unlink, "renamed or removed"),
     "replaced": (lambda path: os.replace(f"{path}.copy", path), "another file is at .* now"),
     "named twice": (lambda path: os.link(path, f"{path}.too"), r"has 2 names \(hard links\) now"),
     "cut": (lambda path: os.truncate(path, PAGE), "was cut from [0-9]* bytes to 4096"),
-    "its log renamed": (lambda path: os.rename(path + LOG, f"{path}.old"), "renamed or taken away"),
-    "its log taken away": (lambda path: os.unlink(path + LOG), "renamed or taken away"),
+    "its log renamed": (lambda path: os.rename(path + LOG, f"{path}.old"), "renamed or removed"),
+    "its log taken away": (lambda path: os.unlink(path + LOG), "renamed or removed"),
     "its log named twice": (lambda path: os.link(path + LOG, f"{path}.too"), "has 2 names .* now"),
     "its log cut": (lambda path: os.truncate(path + LOG, 2 * PAGE), "was cut from [0-9]* bytes to 8192"),
     "its log emptied": (lambda path: os.truncate(path + LOG, 0), "was cut from [0-9]* bytes to 0"),
@@ -190,9 +190,9 @@ class Files(ServeTest):
         for path in journal, other:
             with self.serve(path, status=1) as serve:
                 serve.end(1, None)
-            self.assertEqual(serve.told(), f"nrm-tools serve: {path} is a file of 2 names (hard links), and a journal "
-                                           "must have one: take the others away\n")
-            self.stopped("journal", "end", str(path), "one", says="is a file of 2 names")
+            self.assertEqual(serve.told(), f"nrm-tools serve: {path} has 2 names (hard links), and a journal "
+                                           "must have only one: remove the others\n")
+            self.stopped("journal", "end", str(path), "one", says="has 2 names")
         os.unlink(other)
         with self.served(journal) as serve:
             self.assertEqual(talk(serve, b"desk one D1\nbook LOC 1\n"), b"at 1\nok 1\n")

@@ -106,7 +106,7 @@ class Ending(ServeTest):
             self.stopped("journal", "thaw", str(journal), "one", says="one isn't frozen")
             self.told("journal", "end", str(journal), "one")
             for word in "freeze", "thaw":
-                self.stopped("journal", word, str(journal), "one", says="one has ended, and is only looked at")
+                self.stopped("journal", word, str(journal), "one", says="one has ended, and can only be read")
             self.assertEqual(self.answered(serve, b"desk one D1 10\ncancel 2\nask LOC\n"),
                              b"at 10\ndenied\nask LOC 297 leg AB\n")
             self.assertRegex(self.told("journal", "look", str(journal)), r", ended 2\S+Z, program")

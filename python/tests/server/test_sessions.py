@@ -27,32 +27,30 @@ class Client:
     def __init__(self, name: str) -> None:
         self.name, self.line = name, f"{name}\n".encode()
         self.right = Right(name, "", ("look",))
-        self.session: Session | None = None
-        self.place = -1
+        self.is_let_in, self.place = False, -1
         self.told: list[str] = []
 
-    def let_in(self, session: Session, place: int, data: bytes) -> None:
-        self.session, self.place, self.is_waiting = session, place, False
-        session.give(self, data)
+    def let_in(self, place: int, give: Callable[[Client, bytes], None], part: object, data: bytes) -> None:
+        self.place, self.is_let_in, self.is_waiting = place, True, False
+        give(self, data)
 
     def used(self, count: int, data: bytes) -> None:
         """The program has answered something."""
 
     def closed(self, why: str) -> None:
-        self.session = None
+        self.is_let_in = False
         self.told.append(why)
 
     def watch(self) -> None:
         """Nothing is read from it."""
 
 
-class Keeper:
-    """In the place of a server: rows are kept when a test says so."""
+class Commits:
+    """In the place of those who write rows: they are kept when a test says so."""
 
     def __init__(self) -> None:
-        self.loop, self.gather, self.expected = Loop(), GATHER, set()
-        self.events = mock.Mock()
-        self.begin = self.keep = self.halt = self.over = self.followed_no_more = mock.Mock()
+        self.gather, self.expected = GATHER, set()
+        self.writer, self.keep = mock.Mock(is_still=lambda given: False), mock.Mock()
 
 
 class Pipes:
@@ -105,19 +103,20 @@ class Places(unittest.TestCase):
         few = mock.patch.object(frames, "PLACES", PLACES)
         few.start()
         self.addCleanup(few.stop)
-        self.pipes, self.keeper = Pipes(), Keeper()
+        self.pipes, self.loop = Pipes(), Loop()
         self.begun()
         self.addCleanup(self.close)
 
     def close(self) -> None:
         self.pipes.close()
-        self.keeper.loop.poll.close()
+        self.loop.poll.close()
 
     def begun(self) -> None:
         """A session whose program answers."""
         self.close()
-        self.keeper = Keeper()
-        self.session = Session(self.keeper, Opened(1, "hub", "first", "p", False, None, 0, 1))
+        self.loop, self.commits = Loop(), Commits()
+        self.session = Session(self.loop, mock.Mock(), self.commits, Opened(1, "hub", "first", "p", False, None, 0, 1),
+                               mock.Mock(), mock.Mock(), mock.Mock())
         self.begin()
 
     def begin(self) -> None:
@@ -141,7 +140,7 @@ class Places(unittest.TestCase):
 
     def pass_time(self, seconds: float) -> None:
         """Time goes on, and what is due is done."""
-        loop = self.keeper.loop
+        loop = self.loop
         loop.now += seconds
         loop.later, due = [it for it in loop.later if it[0] > loop.now], [it for it in loop.later if it[0] <= loop.now]
         loop.soon += [it[2] for it in due]
@@ -149,7 +148,7 @@ class Places(unittest.TestCase):
 
     def given(self) -> list[str]:
         """The lines of what the program was given in this round."""
-        self.keeper.loop.do_what_is_due()
+        self.loop.do_what_is_due()
         return [" ".join([*words[:2], *data.decode().split()]) if data else " ".join(words[:3])
                 for words, data in self.pipes.frames()]
 
@@ -163,14 +162,14 @@ class Places(unittest.TestCase):
         """As long as nothing is written and nobody is awaited."""
         self.came("A")
         self.assertEqual(self.given(), ["open 0 A", "came 0 A"])
-        self.assertEqual(self.keeper.expected, {self.session})
+        self.assertEqual(self.commits.expected, {self.session})
 
     def test_nothing_is_awaited_of_who_has_only_come(self) -> None:
         """Rows of other networks don't wait for it."""
         made = Client("A")
         made.let_in = lambda *_: None
         self.session.enter(made, b"")
-        self.assertEqual((self.given(), self.keeper.expected), (["open 0 A"], set()))
+        self.assertEqual((self.given(), self.commits.expected), (["open 0 A"], set()))
 
     def test_what_is_held_of_one_is_given_before_the_next_has_the_place(self) -> None:
         """Rows are being written when more comes, and the program closes the client before it has that."""
@@ -258,7 +257,7 @@ class Drive:
         self.draw.choice(self.steps)()
 
     def seated(self) -> list[Client]:
-        return [it for it in self.clients if it.session and not it.is_parting]
+        return [it for it in self.clients if it.is_let_in and not it.is_parting]
 
     def come(self) -> None:
         self.clients.append(self.test.came(f"C{len(self.clients)}"))

@@ -85,9 +85,9 @@ class Asked(WithinTest):
                 ("127.0.0.1:1", "9", "Connection refused"), ("x" * 300, "9", "too long"),
                 (self.answering([b"closed clients\n"]), "9", "says: closed clients"),
                 (self.answering([TEXT.encode()[:-1]], is_late=True), "0.5", "timed out"),
-                (self.answering([TEXT.encode()[:-1]]), "9", "is no status: no status came, but"),
-                (self.answering([b"bad\n\n"]), "9", "is no status: a line of no known kind: 'bad'"),
-                (self.answering([b""]), "9", "is no status: no status came, but b''")):
+                (self.answering([TEXT.encode()[:-1]]), "9", "isn't a status: no status came, but"),
+                (self.answering([b"bad\n\n"]), "9", "isn't a status: a line of no known kind: 'bad'"),
+                (self.answering([b""]), "9", "isn't a status: no status came, but b''")):
             self.stopped("status", place, "--seconds", seconds, says=told)
         with self.assertRaises(NoStatus):
             ask_status(("127.0.0.1", 1), 9)

@@ -11,20 +11,22 @@ from nrm.journal.sqlite_store import Sqlite
 from nrm.journal.sqlite_tables import begin, opened, using
 from nrm.server.counters import Counters
 from nrm.server.sole_owner import Sole
-from nrm.server.status_now import Now, StatusWriter
+from nrm.server.status_now import StatusWriter
 from nrm.server.status_text import NetworkStatus, status_of
 
 
 class Statuses(PlaceTest):
     def setUp(self) -> None:
         super().setUp()
-        self.journal, self.now = str(self.folder / "journal"), 10.0
+        self.journal, self.loop = str(self.folder / "journal"), SimpleNamespace(now=10.0)
         begin(self.journal)
         self.open("one")
         self.reader = self.enter(contextlib.closing(opened(self.journal)))
         self.counters, self.sessions = Counters(), {}
-        owning = Sole(mock.Mock(), Sqlite(self.journal), self.reader, mock.Mock())
-        self.teller = StatusWriter(owning, "ab12", 7, 50, self.counters, self.sessions, lambda: self.now)
+        owning = Sole(Sqlite(self.journal), self.reader, 7, mock.Mock())
+        self.programs = SimpleNamespace(counters=self.counters, sessions=self.sessions, loop=self.loop,
+                                        fits=lambda _: True, answering=SimpleNamespace(checksum="ab12"))
+        self.teller = StatusWriter(owning, self.programs, 7, 50)
 
     def enter(self, manager: contextlib.AbstractContextManager) -> object:
         made = manager.__enter__()
@@ -41,12 +43,13 @@ class Statuses(PlaceTest):
                                   "memory": 4, "network": SimpleNamespace(halted=None), **more})
 
     def networks(self) -> list[NetworkStatus]:
-        return [*self.teller.status(Now(0, 0, 0, False)).networks]
+        return [*self.teller.status(0, 0, False).networks]
 
     def test_what_is_counted_is_told(self) -> None:
         self.counters.closed.update(["idle", "program 137", "idle"])
         self.counters.commit(0.25, 3, True)
-        told = status_of(self.teller.status(Now(4, 5, 6, True)).text())
+        self.counters.begun, self.counters.ended = 9, 3
+        told = status_of(self.teller.status(4, 5, True).text())
         self.assertEqual(told.closed, {"idle": 2, "program-137": 1}, "no reason has a space")
         self.assertEqual((told.clients.now, told.clients.most, told.commits.waiting, told.commits.rows), (4, 50, 5, 3))
         self.assertEqual((told.programs.now, told.server.epoch, told.server.stopping), (6, 7, True))
@@ -62,17 +65,17 @@ class Statuses(PlaceTest):
 
     def test_a_network_of_another_program_has_a_word_too(self) -> None:
         """Whether somebody came to it or not, unless it has ended, or a program runs."""
-        self.teller.fits = lambda network: network.program != "ab12"
+        self.programs.fits = lambda network: network.program != "ab12"
         self.assertEqual([it.state for it in self.networks()], ["version"])
         for state, word in enumerate(("version", "waits", "begins", "answers")):
             self.sessions["one"] = self.session(state)
             self.assertEqual([it.state for it in self.networks()], [word])
-        self.assertEqual(status_of(self.teller.status(Now(0, 0, 0, False)).text()).unfit(), [])
+        self.assertEqual(status_of(self.teller.status(0, 0, False).text()).unfit(), [])
         self.sessions.clear()
-        self.assertEqual(status_of(self.teller.status(Now(0, 0, 0, False)).text()).unfit(), ["one"])
+        self.assertEqual(status_of(self.teller.status(0, 0, False).text()).unfit(), ["one"])
         with using(self.journal, is_to_write=True) as connection:
             end_network(connection, "one")
-        self.now += 2
+        self.loop.now += 2
         self.assertEqual([it.state for it in self.networks()], ["rests"])
 
     def test_the_journal_is_asked_once_a_second(self) -> None:
@@ -81,8 +84,8 @@ class Statuses(PlaceTest):
         self.networks()
         self.open("two")
         with mock.patch("nrm.server.sole_owner.networks_in", side_effect=AssertionError):
-            self.now += 0.9
+            self.loop.now += 0.9
             self.sessions["one"].network.halted = "row 2"
             self.assertEqual(self.networks(), [NetworkStatus("one", "bid", "rests", 3, 0, True, 4)])
-        self.now += 0.2
+        self.loop.now += 0.2
         self.assertEqual([it.network for it in self.networks()], ["one", "two"])

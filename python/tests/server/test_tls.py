@@ -19,7 +19,7 @@ from nrm.server.loop import READ
 from nrm.server.status_text import ask_status
 from nrm.server.tls import RECORD, context_of
 from server.guarded import ADDRESS, GuardedTest, port_of
-from server.houses import House, Taken
+from server.houses import House, let_in
 from server.servers import answers
 from server.serves import ONE, Serve, all_told, rows_in, talk
 
@@ -80,7 +80,7 @@ class Secured(GuardedTest):
                                 ((place, "--ca", "absent"), "absent has no certificates"),
                                 ((place, "--ca", str(self.file("odd", "x"))), "odd has no certificates")]:
                 self.stopped("status", *words, status=1, says=says)
-            self.stopped("status", serve.path, *ca, status=2, says="--ca is for HOST:PORT")
+            self.stopped("status", serve.path, *ca, status=2, says="--ca can be used with HOST:PORT only")
 
     def test_a_desk_in_python_comes_by_tls(self) -> None:
         token = self.token("D1", "look", "book").decode()
@@ -188,12 +188,12 @@ class Secured(GuardedTest):
     def test_no_rest_of_a_record_stays_behind(self) -> None:
         """Which no epoll would show: with little room nothing is read, and else a record whole."""
         house, ends = House(), socket.socketpair()
-        client = Client(house, ends[0], context=context_of(*self.certified()))
+        client = Client(house.reception, ends[0], context=context_of(*self.certified()))
         self.addCleanup(client.vanish)
         may_send = threading.Event()
         meanwhile(self.record_sent, ends[1], may_send)
         wait_for(lambda: client.read(READ) or client.secure.is_shaken, "the end of the handshake")
-        client.let_in(Taken(), 0, b"")
+        let_in(client)
         client.unused = WINDOW - 100
         may_send.set()
         for _ in range(50):

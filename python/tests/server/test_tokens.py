@@ -21,7 +21,7 @@ from nrm.server.tokens import HERE, Tokens
 from nrm.server.watched_files import Watched
 from nrm.server.wrong_tokens import MOST_ADDRESSES
 from server.guarded import GuardedTest
-from server.houses import HIS, House, Taken
+from server.houses import HIS, House, let_in
 from server.servers import answers, child_of
 from server.serves import ONE, all_told, rows_in, talk
 
@@ -31,11 +31,9 @@ MAY = {  # by right: the kinds of lines that it allows
 WRONG = b"wrong"
 
 
-class Closing(Taken):
-    """A session in the place of one, which closes those that are gone."""
-
-    def part(self, client: Client) -> None:
-        client.closed("gone")
+def close(client: Client) -> None:
+    """Closes a client that is gone, as a session does."""
+    client.closed("gone")
 
 
 class Known(GuardedTest):
@@ -177,9 +175,10 @@ class Known(GuardedTest):
         os.chmod(self.file("odd", "[a b]"), 0o600)
         for words, status, says in [
                 (("--desks", "none"), 1, "none: No such file"), (("--desks", "fifo"), 1, "fifo is no plain file"),
-                (("--desks", "odd"), 1, "odd is no TOML at line 1"), (("--desks", ""), 2, "name of a file"),
-                (("--certificate", "odd"), 2, "go together"), (("--key", "odd"), 2, "go together"),
-                (("--certificate", "odd", "--key", "odd"), 2, "are for --listen"),
+                (("--desks", "odd"), 1, "odd is no TOML at line 1"), (("--desks", ""), 2, "can't be empty"),
+                (("--certificate", "odd"), 2, "must be given together"),
+                (("--key", "odd"), 2, "must be given together"),
+                (("--certificate", "odd", "--key", "odd"), 2, "can be used with --listen only"),
                 (("--desks", "odd", "--listen", "127.0.0.1:0"), 2, "needs --certificate and --key"),
                 (("--listen", "127.0.0.1:0", "--certificate", "none", "--key", "odd"), 1, "none: No such file"),
                 (("--listen", "127.0.0.1:0", "--certificate", "odd", "--key", "fifo"), 1, "fifo is no plain file"),
@@ -232,7 +231,7 @@ class Slowed(GuardedTest):
         there.setblocking(False)
         with here, there:
             there.sendall(lines)
-            client = Client(self.house, here, address)
+            client = Client(self.house.reception, here, address)
             client.read(0)
             yield client, there
 
@@ -325,7 +324,7 @@ class Slowed(GuardedTest):
         for least in (1, RECORD):
             with self.coming("here", b"") as (client, there):
                 client.least = least
-                client.let_in(Taken(), 0, b"")
+                let_in(client)
                 client.unused = WINDOW - least
                 client.watch()
                 there.sendall(b"x")
@@ -359,14 +358,14 @@ class Slowed(GuardedTest):
         for first, sent, wanted in [(b"", b"book LOC 1", b"closed half\n"), (b"", b"\n" * 20, None),
                                     (b"", b"b\n" * 20, None), (b"book", b" LOC 1\n", b"closed half\n")]:
             with self.subTest(seated=first), self.coming(HERE, b"") as (client, there):
-                client.let_in(Closing(), 0, first)
+                let_in(client, first, close)
                 self.assertEqual(self.goes_on(client, there, sent), wanted)
 
     def test_a_line_that_begins_late_has_its_time(self) -> None:
         """Whether the program has it already or not."""
         for is_seated in (False, True):
             with self.coming(HERE, b"") as (client, there):
-                client.let_in(Closing(), 0, b"") if is_seated else None
+                let_in(client, part=close) if is_seated else None
                 for after, sent, wanted in (30, b"de", None), (4, b"s", None), (2, b"", b"closed half\n"):
                     self.house.loop.now += after
                     there.sendall(sent)

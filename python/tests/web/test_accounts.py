@@ -5,6 +5,7 @@ import html
 import os
 import re
 import time
+from collections import Counter
 from pathlib import Path
 from unittest import mock
 
@@ -14,6 +15,13 @@ from web.webs import WebTest, passed
 
 LINE = "/networks/hub/lines/2"
 FULL = "Refused: AB had 1 seat left of 300, and 2 were asked for."
+
+
+def twice_in(page: str) -> list[str]:
+    """The sentences, and lines of some words, that a page shows twice or more."""
+    text = html.unescape(re.sub(r"<[^>]*>", "\n", re.sub(r"<(style|script|title).*?</\1>", "", page, flags=re.DOTALL)))
+    parts = Counter(part for line in text.splitlines() for part in re.split(r"(?<=[.:;]) ", line.strip()))
+    return [part for part, count in parts.items() if count > 1 and part.count(" ") > 2]
 
 
 class AccountsTest(WebTest):
@@ -36,15 +44,17 @@ class AccountsTest(WebTest):
             page = web.get(f"{LINE}/why")
             self.assertEqual(page.status, 200, page.text)
             self.want_in(page.text, f'<p class="verdict">{FULL}')
-            shown = html.unescape(re.findall(r"<pre[^>]*>(.*?)</pre>", page.text, re.DOTALL)[0])
+            shown = html.unescape("\n".join(re.findall(r'<p class="verdict">(.*?)</p>\n<pre[^>]*>(.*?)</pre>', page.text,
+                                                       re.DOTALL)[0]))
             self.assertEqual(shown, self.told("why", self.lines, "hub", 2, env=os.environ))
+            self.assertEqual(twice_in(page.text), [])
             self.assertEqual(web.get("/networks/hub/lines/3/why").status, 404)
 
     @needs("jinja2")
     def test_it_is_off_by_default(self) -> None:
         with self.web(self.lines) as web:
             self.assertNotIn("/why", web.get(LINE).text)
-            self.assertEqual(web.get(f"{LINE}/why")[:2], (404, "off: accounts aren't on: `--why` has them on\n"))
+            self.assertEqual(web.get(f"{LINE}/why")[:2], (404, "off: accounts are off: `--why` enables them\n"))
         self.stopped("web", self.lines, "--socket", "s", "--listen", "127.0.0.1:0", "--why", status=2, says="--page")
 
     @needs("jinja2")

@@ -249,7 +249,7 @@ class DoorTest(WebTest):
         """A server that is stopped for a while: what was late has its reply, and was carried out once."""
         journal = self.journal("hub", mode="bid")
         with self.served(journal) as serve, self.web(journal, serve.path, seconds=0.5) as web:
-            self.same_told(web.post(f"{AT}/1", "book HJ-Q 1"), 200, "ok 1\n")
+            wait_for(lambda: web.post(f"{AT}/1", "book HJ-Q 1").text == "ok 1\n", "the first reply")
             serve.process.send_signal(signal.SIGSTOP)
             told = web.post(f"{AT}/2", "book HJ-Q 1")
             self.assertEqual((told.status, told.text.split(":")[0]), (504, "late"))

@@ -158,7 +158,7 @@ class FollowingTest(WebTest):
                 following = self.followed(journal)
                 one, two = following.networks["one"], following.networks["two"]
                 self.assertEqual((one.fault, one.seen.lines, one.seen.sold),
-                                 (f"row 2, `{line}` with the reply `{reply}`, is none that a server writes", 1, 1))
+                                 (f"row 2, `{line}` with the reply `{reply}`, isn't one that a server writes", 1, 1))
                 self.assertEqual((two.fault, two.seen.sold), (None, 2))
 
     def test_requests_a_minute(self) -> None:

@@ -45,7 +45,7 @@ class HealthTest(WebTest):
             self.write(journal, [("book LOC 1", "ok 2")])
             wait_for(lambda: web.web.following.networks["hub"].fault, "the strange row")
             self.assertEqual(web.get("/healthz")[:2], (503, "halted: other; hub: row 1, `book LOC 1` with the reply "
-                                                            "`ok 2`, is none that a server writes\n"))
+                                                            "`ok 2`, isn't one that a server writes\n"))
 
     def test_a_server_that_is_gone(self) -> None:
         with self.web(self.journal(), self.folder / "none") as web:

@@ -15,7 +15,7 @@ from pathlib import Path
 from typing import Sequence
 
 from harness import SECONDS, needs, wait_for
-from nrm.web.http_server import FULL, is_own_name
+from nrm.web.http_listening import FULL, is_own_name
 from nrm.web.messages import MOST_HEAD
 from nrm.web.routes import DESCRIPTION
 from server.serves import ONE

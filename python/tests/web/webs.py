@@ -16,7 +16,7 @@ from harness import SECONDS, meanwhile, wait_for
 from nrm.journal.sqlite_tables import using
 from nrm.journal.sqlite_writing import Given, SqliteWriter
 from nrm.server.status_text import NetworkStatus
-from nrm.web.http_server import Listening, Site
+from nrm.web.http_listening import Listening, Site
 from nrm.web.routes import Web, WebSettings
 from server import servers
 from server.serves import ServeTest

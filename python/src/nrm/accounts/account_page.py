@@ -11,9 +11,9 @@ from nrm.accounts.sentences import fault_of, verdict
 from nrm.pages.page import Page
 from nrm.pages.tables import Table
 
-HOW = ("Each step again, by hand: the numbers are those of the network file, of the replies before the line and of the "
-       "plan.")
-COMMANDS = "The same with commands:"
+HOW = ("To do each step again by hand, take the numbers from the network file, from the replies before the line, and "
+       "from the plan:")
+COMMANDS = "These commands do the same:"
 BELIEVED = "What must be believed:"
 MEANING = "docs/auditor/why.md says what each line means."
 
@@ -44,7 +44,7 @@ class AccountPage:
     def below(self) -> Iterator[str]:
         """What comes below that."""
         if self.fault:
-            yield f"What the account says, which isn't to be relied on before that is explained: {self.sentence}"
+            yield f"The account says the following, and can't be relied on before that is explained: {self.sentence}"
         yield from map(shown, (*self.where, *self.notes))
 
 

@@ -56,15 +56,15 @@ class LineOfStream:
         """The account of the line by the program of some words, beside a session of `nrm`, and beside the replies that
         were kept of the lines if a file has them."""
         if stat.S_ISFIFO(os.stat(self.stream).st_mode):
-            raise Stop(f"{self.stream} is no plain file")
+            raise Stop(f"{self.stream} isn't a plain file")
         if is_of_sqlite(self.network):
-            raise Stop(f"{self.network} is an SQLite file, and no network file: a line of a journal is asked for by "
-                       "three words, JOURNAL NETWORK NUMBER")
+            raise Stop(f"{self.network} is an SQLite file, not a network file: for a line of a journal give three "
+                       "words, JOURNAL NETWORK NUMBER")
         account = self.account(words)
         try:
             course = PlayedLine.played(self.network, self.mode, self.stream, self.number, program, replies)
         except (LookupError, ValueError) as what:
-            raise Stop(f"the replies to {self.stream} don't fit its lines: {what}; is that another program?")
+            raise Stop(f"the replies to {self.stream} don't fit its lines: {what}; is it another program?")
         try:
             steps = [*steps_of(account, course), *certificate_steps(account, course, program)]
         except (LookupError, ValueError) as what:
@@ -84,7 +84,7 @@ class LineOfStream:
         try:
             return account_of(text)
         except NoAnswer as what:
-            raise Stop(f"what `{' '.join([NAME, *asked])}` wrote is no account: {what}; is that another program?")
+            raise Stop(f"what `{' '.join([NAME, *asked])}` wrote isn't an account: {what}; is it another program?")
 
 
 def is_of_sqlite(path: str) -> bool:
@@ -101,7 +101,7 @@ def found(words: Sequence[str] | None, program: Program) -> tuple[str, ...]:
         behind = program_behind(os.path.abspath(there)) if there else None
         if not there or not behind:
             raise Stop(f"there is no program {given[0]}" if not there else
-                       f"{given[0]} stands for no built program that fits its sources, and nothing is built here")
+                       f"{given[0]} has no built program that fits its sources, and nothing is built here")
         return (behind, *given[1:])
     built = built_in(TOP, NAME) if is_checkout(TOP) else None
     beside = Path(shutil.which(program.words[0]) or program.words[0]).resolve().with_name(NAME)
@@ -109,7 +109,7 @@ def found(words: Sequence[str] | None, program: Program) -> tuple[str, ...]:
         built = beside
     if not built:
         raise Stop(f"there is no `{NAME}` that fits the sources, nor one beside `nrm`, and nothing is built here: "
-                   f"--why or {WORDS_OF} says which to run")
+                   f"--why or {WORDS_OF} names the one to run")
     return str(built),
 
 
@@ -125,7 +125,7 @@ def certificate_steps(account: Account, course: PlayedLine, program: Program) ->
         plan, planned = course.plan, course.planned
     elif isinstance(account.reasons, Optimisation) and course.optimised():
         plan, planned = course.plan_behind, course.plan_made()
-        yield Step("the value of the plan that is in force behind the line is the one that was answered",
+        yield Step("the value of the plan that is in force after the line is the one that was answered",
                    plan.split("\n")[0].split(" ")[1:] == course.reply.split(" ")[1:])
     else:
         return

@@ -14,8 +14,8 @@ from nrm.journal.answered_lines import AnsweredLine
 from nrm.journal.choosing_store import is_file
 
 FOLDER = "by-hand"  # where the commands of a page write files
-BY_HAND = ("Of the programs nothing, where each step is done by hand: then the arithmetic alone. Who relies on the "
-           "steps as they are told relies on the code of these tools, which is tested and not proved.")
+BY_HAND = ("Nothing of the programs if you do each step by hand: then you rely on the arithmetic alone. If you rely on "
+           "the steps as they are printed, you rely on the code of these tools, which is tested and not proved.")
 
 
 # A plain stream

@@ -132,7 +132,7 @@ class PlayedLine:
         """The plan in force before the line."""
         plan = answer_of(self.plan.encode("latin-1"))
         if not isinstance(plan, Plan):
-            raise Stop("what the line `plan` was answered is no plan: is that another program?")
+            raise Stop("the reply to the line `plan` isn't a plan: is it another program?")
         return plan
 
     def plan_made(self) -> Planned:
@@ -173,7 +173,7 @@ def with_reply(run: Stream, told: Iterator[bytes]) -> list[str]:
     if len(put_in) < PUT_IN and (status := run.wait()):
         raise unanswered(run.mode, run.network, status, b"".join(put_in[-1:]))
     if len(put_in) != PUT_IN or {*put_in[::2]} != {b"bad\n"}:
-        raise NoAnswer(f"{len(put_in)} replies where {PUT_IN} are wanted")
+        raise NoAnswer(f"{len(put_in)} replies instead of {PUT_IN}")
     return [text_of_line(it) for it in put_in[1::2]]
 
 

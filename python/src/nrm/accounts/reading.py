@@ -123,8 +123,8 @@ Reasons = Union[RequestAccount, CancellationAccount, Optimisation, None]
 
 @dataclass(frozen=True)
 class Account:
-    """The account of a line: its number, what it asked for, the reasons, and the answer, which the lines `leg` and
-    `plan` don't have here; and the text itself."""
+    """The account of a line: its number, what it asked for, the reasons, and the answer, unless it is the text of a leg
+    or of a plan; and the text itself."""
     number: int
     asked: str
     reasons: Reasons
@@ -157,10 +157,12 @@ def account_of(text: str) -> Account:
     lines = AccountLines(text.split("\n")[:-1] if text.endswith("\n") else [])
     number, asked = lines.must(LINE)
     reasons = reasons_in(lines)
-    told = lines.taken(ANSWER)
-    if lines.at < len(lines.lines) or (told is None) != (asked.split(" ")[0] in ("leg", "plan")):
+    answer = (lines.taken(ANSWER) or [None])[0]
+    verb = asked.split(" ")[0]
+    is_text = verb == "plan" or verb == "leg" and answer != "unknown"
+    if lines.at < len(lines.lines) or (answer is None) != is_text:
         raise NoAnswer(repr(text[:MOST_SHOWN]))
-    return Account(whole(number), asked, reasons, told[0] if told else None, text)
+    return Account(whole(number), asked, reasons, answer, text)
 
 
 def reasons_in(lines: AccountLines) -> Reasons:

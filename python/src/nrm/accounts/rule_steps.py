@@ -41,8 +41,8 @@ def steps_of(account: Account, course: PlayedLine) -> Iterator[Step]:
     if account.answer is not None:
         yield Step(f"a session up to this line, by `nrm run`, answers it: {course.reply}",
                    account.answer == course.reply)
-    yield Step("an account with reasons is of a request for a product that there is, of a booking that stands, or of a "
-               "period that there is", wants_reasons(course) == (account.reasons is not None))
+    yield Step("an account has reasons if it is of a request for a product of the network, of a booking that stands, or of "
+               "a period of the network", wants_reasons(course) == (account.reasons is not None))
     if isinstance(account.reasons, RequestAccount):
         yield from of_request(account.reasons, course)
     elif isinstance(account.reasons, CancellationAccount):
@@ -112,7 +112,7 @@ def of_leg(leg: LegAccount, party: int, product: Product, course: PlayedLine) ->
 def of_nest(leg: LegAccount, product: Product, rule: Rule, mode: str) -> Iterator[Step]:
     """The bucket of the product on a leg, and where the seats that are protected from it come from."""
     if mode != "davn" or leg.nest is None:
-        yield Step(f"{leg.name}: nothing is protected, as there are no nests under {mode}",
+        yield Step(f"{leg.name}: nothing is protected, because there are no nests under {mode}",
                    mode != "davn" and leg.nest is None and leg.protected == 0)
         return
     nest, name = leg.nest, leg.name
@@ -203,7 +203,7 @@ def largest_steps(it: RequestAccount, product: Product, prices: dict[str, Fracti
     is_below = total > product.fare
     seats = [max(leg.left - leg.protected, 0) for leg in it.legs]
     largest = 0 if is_below else min([MOST_PARTY, *seats])
-    yield Step("no party is sold, as the fare is below the prices" if is_below else
+    yield Step("no party is sold, because the fare is below the prices" if is_below else
                f"the legs have {', '.join(map(str, seats))} seats left that aren't protected, so {largest} would be "
                "sold",
                it.largest == largest)

@@ -38,11 +38,12 @@ def sentence_of(account: Account, course: PlayedLine, sale: str = "") -> str:
     verb = account.asked.split(" ")[0]
     if account.answer == "unknown":
         return {"book": "Refused: no product has the name {}.", "cancel": "Nothing was cancelled: no booking {} stood.",
+                "leg": "No leg has the name {}.",
                 }.get(verb, "No plan was made: the network has no period {}.").format(account.asked.split(" ")[1])
     if verb in ("leg", "plan"):
         return f"The line asked for a text, and changed nothing: {account.asked}."
     if verb == "bad":
-        return "The line is none that is known, and changed nothing."
+        return "The line isn't one that is known, and changed nothing."
     return f"The line {verb} was answered: {account.answer}."
 
 
@@ -90,7 +91,7 @@ def of_optimisation(account: Account) -> str:
     """What an optimisation came to."""
     answer = account.answer or ""
     if not answer.startswith("optimised "):
-        return f"No plan was made, as the linear program came to {answer}: the one in force stayed."
+        return f"No plan was made, because the linear program ended with {answer}: the plan in force stayed."
     value = answer.split(" ")[1]
     if value == "none":
         return "A plan was asked for, and first come, first served has none."
@@ -104,7 +105,7 @@ def verdict(why: Why) -> str:
     failing = [it for it in why.steps if not it.holds]
     if not failing:
         return f"All {len(why.steps)} steps hold."
-    return (f"{len(failing)} of {len(why.steps)} steps FAIL: the account isn't to be relied on. The first: "
+    return (f"{len(failing)} of {len(why.steps)} steps FAIL. The first: "
             f"{failing[0].text}")
 
 
@@ -115,17 +116,17 @@ def fault_of(why: Why) -> str | None:
     if why.holds:
         return None
     if kept is not None and kept != answer:
-        return f"Not as it should be: the reply to line {why.course.number} is {voices(why, kept)}."
+        return f"Something is wrong: the reply to line {why.course.number} is {voices(why, kept)}."
     if differing:
-        return (f"Not as it should be: the reply to line {differing.line} is `{differing.kept}` in the journal, and "
+        return (f"Something is wrong: the reply to line {differing.line} is `{differing.kept}` in the journal, and "
                 f"`{differing.reply}` by `nrm run`, so what stood before line {why.course.number} can't be relied on.")
-    return f"Not to be relied on: {verdict(why)}"
+    return f"Don't rely on this account: {verdict(why)}"
 
 
 def voices(why: Why, kept: str) -> str:
     """What each says that the reply to the line is, of which those that say the same stand together."""
     said = {"in the journal": kept, "in the account": why.account.answer or "", "by `nrm run`": why.course.reply,
-            "by the rule as it is worked out here": answer_by_rule(why.course)}
+            "by the rule as it is computed here": answer_by_rule(why.course)}
     replies = dict.fromkeys(it for it in said.values() if it is not None)
     told = [f"{quoted(reply)} {together([who for who, it in said.items() if it == reply])}" for reply in replies]
     return f"{', '.join(told[:-1])}, and {told[-1]}"

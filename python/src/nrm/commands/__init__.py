@@ -27,5 +27,6 @@ NAMED = {
     "token": "nrm.commands.token",
     "resume": "nrm.commands.resume",
     "web": "nrm.commands.web",
+    "completion": "nrm.commands.completion",
 }
 ALONE = ("audit",)  # these begin and end by themselves

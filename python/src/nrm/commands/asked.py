@@ -1,20 +1,20 @@
-"""From the streams of past departures to the demand rows of a network file: what was asked for, sold or not.
+"""Makes the demand rows of a network file from the streams of past departures: what was asked for, sold or not.
 
     nrm-tools asked NETWORK STREAM... [--add] [--last N] > NEW
 
-Each STREAM is what one departure's session was given, and becomes a history, in the order in which they are named; that
-of a network of a journal is written by `nrm-tools journal look JOURNAL NETWORK | cut -f5`. A line `book PRODUCT SEATS`
-is a request of the period of the last `reoptimise K` before it, of period 1 where there was none. What was refused
-counts like what was sold: so these are requests, and nothing has to be estimated. What is written is NETWORK with this
-demand in the place of its own. With --add the histories of NETWORK stay, before the new ones; with --last N the N
-latest of all are taken: a file takes 32. So after each departure one line makes the network of the next.
+Each STREAM has the lines that the session of one departure was given, and becomes one history, in the order in which
+the streams are named. For a network of a journal, `nrm-tools journal look JOURNAL NETWORK | cut -f5` writes the stream.
+A line `book PRODUCT SEATS` is a request. It counts in the period of the last `reoptimise K` before it, or in period 1
+if there is none. Refused requests count like sold ones, so nothing has to be estimated. The output is NETWORK with this
+demand instead of its own. With --add the histories of NETWORK stay, before the new ones. With --last N only the N
+latest of all histories are written; a file takes 32. So one command after each departure makes the network of the next.
 
-WHAT IS READ. On standard error stands of each stream how many requests it has, and what of it was left out: products
-that NETWORK hasn't, lines that are none of a session, and a `reoptimise` that goes back or beyond the last period.
+WHAT IS READ. Standard error says of each stream how many requests it has, and what was ignored: products that NETWORK
+doesn't have, lines that no session takes, and a `reoptimise` that goes back or beyond the last period.
 
-WHAT A STREAM DOESN'T TELL. Someone who was refused and asks again, for another product or fewer seats, is counted each
-time. A customer who sees that a product is closed, and doesn't ask, isn't counted: desks that show what is open are to
-be taken as bookings with closures, by `nrm-tools demand`. Cancelled bookings count as requests.
+WHAT A STREAM DOESN'T SHOW. A customer who was refused and asks again, for another product or for fewer seats, counts
+each time. A customer who sees that a product is closed, and doesn't ask, doesn't count. If your desks show what is
+open, treat what they send as bookings with closures, and use `nrm-tools demand`. Cancelled bookings count as requests.
 """
 from __future__ import annotations
 
@@ -44,7 +44,7 @@ def run(given: Sequence[str]) -> int:
         for line in it.told(path):
             running.tell("asked", line)
         if not it.requests:
-            raise Stop(f"{said(path)} asks for no product of {said(asked.network)}: is it a stream?")
+            raise Stop(f"{said(path)} asks for no product of {said(asked.network)}. Is it a stream?")
     histories = [*(histories_in(network) if asked.add else []), *histories_of(network, streams)]
     print(text_of(rows_with(network, histories[-(asked.last or len(histories)):])), end="")
     return 0

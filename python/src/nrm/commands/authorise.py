@@ -1,4 +1,4 @@
-"""The authorised seats of all legs at once that earn most in seasons that are drawn, beside the rules for one leg.
+"""Searches for the authorised seats of all legs that earn most in drawn seasons, and compares them with simple rules.
 
     nrm-tools authorise NETWORK --show P --denied-cost C [--mode MODE] [--seasons N] [--check N] [--sweeps K]
                         [--service P] [--together [LEG...]]... [--out FOLDER] [--seed S] [--demand HOW] [--order HOW]
@@ -6,34 +6,35 @@
                         [--workers N | --cluster ADDRESS [--tls CA CERTIFICATE KEY]] [--patience SECONDS]
                         [--names FILE] [--program WORD...]
 
-Of those who have booked each seat is taken with the probability P, and each seat taken beyond the physical ones of a
-leg costs C. What is earned is the revenue and what was withheld, less that cost. Seasons are drawn and played as
-`nrm-tools simulate` does it, with the same options, under `davn` or the mode that is said.
+Each booked seat is taken with probability P, and each seat taken beyond the physical ones of a leg costs C. Earnings
+are the revenue and what was withheld, less that cost. Seasons are drawn and played as by `nrm-tools simulate`, with the
+same options, under `davn` or under --mode.
 
-THE SEARCH begins with the seats of each leg divided by P, rounded down. Then, leg by leg, the authorised seats are
-moved by 4, 2 and 1, up and down, as long as more is earned in --seasons (400); in each later sweep over the legs by 2
-and 1, until one moves nothing or --sweeps (3) are done. All numbers are tried on the same requests, in the same order,
-of which the same come.
+THE SEARCH starts with the seats of each leg divided by P, rounded down. Then it goes from leg to leg, and moves the
+authorised seats by 4, 2 and 1, up and down, as long as that earns more in --seasons (400). Each later sweep over the
+legs moves them by 2 and 1. The search ends when a sweep moves nothing, or after --sweeps (3). All numbers are tried on
+the same requests, in the same order, and the same of them come.
 
-THE JUDGEMENT. What was found was picked by its seasons, and looks better there than it is. So it is played in other
-seasons, --check (1000), beside the numbers of the file and those of the rules, and told are what each earns, by how
-much that is more than by the first rule, with its error, and by how much the seasons of the search flatter it.
+THE JUDGEMENT. The search picks what does well in its own seasons, so its result looks better there than it is.
+Therefore it is played in other seasons, --check (1000), beside the numbers of the file and those of the rules. The
+output says what each earns, how much more than the first rule that is, with its error, and by how much the seasons of
+the search flatter it.
 
-THE RULES take each leg to be full, and by itself: the simple rule, the seats divided by the share that comes; the
-service level, the most of which more come than there are seats in at most --service (0.05) of departures; and the
-marginal rule, the most of which the last brings as much as it costs: the mean fare of a seat on the leg, where a
-product of several legs leaves each an equal part, is at least C times the chance that who has booked it comes and finds
-the seats taken.
+THE RULES treat each leg by itself, and as full. The simple rule divides the seats by the share that comes. The service
+level is the largest number with which more come than there are seats in at most --service (0.05) of departures. The
+marginal rule is the largest number of which the last seat earns as much as it costs: the mean fare of a seat on the
+leg, where a product of several legs leaves each an equal part, is at least C times the chance that its customer comes
+and finds no seat.
 
-LEGS WITH ONE NUMBER. --together alone has one number of authorised seats for all legs, as a train has; --together T1-*
-one for those whose names the pattern fits (quote it), and it may be said several times. These legs must have as many
-physical seats as each other.
+LEGS WITH ONE NUMBER. --together without a LEG gives all legs the same authorised seats, as a train has. --together T1-*
+does this for the legs whose names fit the pattern (quote it), and may be used several times. These legs must all have
+the same number of physical seats.
 
-WHAT IS WRITTEN. The tables come on standard output, progress on standard error. With --out FOLDER there are also
-summary.txt, tries.jsonl with what each season earned by each number that was tried, and NAME-authorised.csv, the
-network of version 2 with the authorised seats that were found. A run that was cut, by Ctrl-C too, goes on from
-tries.jsonl if the same line is run again. It needs Dask, as `nrm-tools simulate --help` says, and what it finds doesn't
-depend on where it runs.
+WHAT IS WRITTEN. Tables go to standard output, progress to standard error. With --out FOLDER there are also summary.txt,
+tries.jsonl with what each season earned by each number that was tried, and NAME-authorised.csv, the network of version
+2 with the authorised seats that were found. A run that was interrupted, by Ctrl-C or otherwise, continues from
+tries.jsonl if you run the same command again. It needs Dask, as `nrm-tools simulate --help` says, and its result
+doesn't depend on where it runs.
 """
 from __future__ import annotations
 
@@ -105,7 +106,7 @@ def words_of(given: Sequence[str]) -> argparse.Namespace:
     asked = words.parse_args(given)
     see_workers(words, asked)
     if not asked.show:
-        words.error("--show is above 0: where nobody comes no number of authorised seats is too large")
+        words.error("--show must be above 0: if nobody comes, no number of authorised seats is too large")
     return asked
 
 

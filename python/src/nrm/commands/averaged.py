@@ -1,20 +1,21 @@
-"""Bid prices averaged over the histories, each history's with its certificate, and what they would earn.
+"""Averages bid prices over the histories, certifies those of each history, and compares what they would earn.
 
     nrm-tools averaged NETWORK [--out FOLDER] [--seasons N] [--seed S] [--demand HOW] [--order HOW]
                        [--parties SIZE:WEIGHT,...] [--leave-out] [--names FILE] [--program WORD...]
 
-The bid prices of `nrm plan bid` are those of the mean of the histories, as if that were sure to come. Here each history
-has its linear program by itself, with all authorised seats, and the mean of their prices is told beside the plan's: so
-a leg that is scarce in some of the histories alone has a price. It is randomised linear programming (Talluri and van
-Ryzin, chapter 3). With --out FOLDER there are history-H.csv, the network with this history alone, and history-H.txt,
-the certificate of its prices, which `nrm check` has found optimal.
+The bid prices of `nrm plan bid` are those of the mean of the histories, as if that demand were sure to come. Here each
+history has a linear program of its own, with all authorised seats, and the mean of their prices is printed beside the
+plan's prices. So a leg that is scarce in only some of the histories has a price. This is randomised linear programming
+(Talluri and van Ryzin, chapter 3). With --out FOLDER there are history-H.csv, the network with this history alone, and
+history-H.txt, the certificate of its prices, which `nrm check` has found optimal.
 
-With --seasons N seasons are drawn as `nrm-tools simulate` draws them, and the same requests are sold in the three modes
-and by the averaged prices, which are made anew at the start of each period, of the seats that are left and the demand
-to come in each history. `nrm` hasn't this control. It is played as a desk could: a request whose fare is below the
-prices of its legs isn't asked for, and the others are asked at `nrm run first`, which sells them while there are seats.
---leave-out makes all plans, and the mean, without the history that is played. All is played in one process, as many
-plans a season as there are histories times periods; `nrm-tools simulate --averaged` plays the same on all processors.
+With --seasons N seasons are drawn as by `nrm-tools simulate`, and the same requests are sold in the three modes and by
+the averaged prices. These are computed again at the start of each period, from the seats left and the demand to come in
+each history. `nrm` doesn't have this control. It is played as a desk could play it: a request whose fare is below the
+prices of its legs isn't sent, and the others are sent to `nrm run first`, which sells them while there are seats.
+--leave-out makes all plans, and the mean, without the history that is played. All is played in one process, with as
+many plans a season as there are histories times periods; `nrm-tools simulate --averaged` plays the same on all
+processors.
 """
 from __future__ import annotations
 
@@ -49,13 +50,13 @@ def run(given: Sequence[str]) -> int:
     add_drawing(words)
     asked, texts = asked_with_texts(words, given)
     if asked.cancel:
-        words.error("--cancel isn't played by averaged prices")
+        words.error("--cancel can't be used with averaged prices")
     if asked.leave_out and asked.demand != "histories":
-        words.error("--leave-out goes with --demand histories alone: with the others no one history is played")
+        words.error("--leave-out can be used with --demand histories only: the others don't play a single history")
     network, program = Network.read(asked.network), Program.found(asked.program)
     plan = program.told(plan_of, "plan", "bid", asked.network)
     if asked.leave_out and network.histories < 2:
-        raise Stop(f"{said(asked.network)} has one history: --leave-out takes two, one to play and one to know")
+        raise Stop(f"{said(asked.network)} has one history, and --leave-out needs two: one to play and one to know")
     with tempfile.TemporaryDirectory() as folder:
         averaged = Averaged(network, program, folder)
         mean = averaged.of(1, averaged.full)
@@ -79,7 +80,7 @@ def certify(network: Network, program: Program, folder: str) -> None:
             paths += [output.add(os.path.join(folder, os.path.basename(it)), bytes_in(it))
                       for it in averaged.certified(history)]
         last = os.path.basename(paths[-1])
-        print(f"\n{said(paths[1])} to {last}: each is optimal for the file beside it")
+        print(f"\n{said(paths[1])} to {last}: each certificate is optimal for the file beside it")
 
 
 def compare(asked: argparse.Namespace, program: Program, folder: str) -> Compared:

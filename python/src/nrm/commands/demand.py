@@ -1,4 +1,4 @@
-"""From bookings, and the times at which products were closed, to the demand rows of a network file.
+"""Estimates the demand rows of a network file from bookings and the times at which products were closed.
 
     nrm-tools demand LOG --departs COLUMN --booked COLUMN --product COLUMN.. [--seats COLUMN] --cuts DAYS,DAYS..
                      (--closures FILE [--closed FROM TO] | --readings FILE [--read COLUMN] [--available COLUMN])
@@ -6,46 +6,48 @@
                      [--like-class] [--report FILE] [--same TRAIN TRAIN..] [--without COLUMN TEXT..] [--network FILE]
                      [--names FILE] [--weekday DAY] [--last N] [--dates dmy|mdy] [--multiline] > NEW
 
-LOG has a row for each booking, as `nrm-tools log` reads it; what `nrm-tools log --help` says of columns, quotes, dates,
-trains, seasons, periods and names holds here too, and --same is for the file of times as well. --cancelled COLUMN
-leaves out each booking that has something in that column, such as the day on which it was cancelled.
+LOG has a row for each booking, as `nrm-tools log` reads it. What `nrm-tools log --help` says about columns, quotes,
+dates, trains, seasons, periods and names holds here too, and --same applies to the file of times as well. --cancelled
+COLUMN ignores each booking that has something in that column, such as the day on which it was cancelled.
 
-CLOSURES. FILE has a row for each time at which a product of a departure couldn't be booked: the columns of the
-departure and of the product are those of LOG, and --closed names the two others, `closed from` and `closed to` if it
-doesn't. A moment is a date and a time, such as 2025-02-20 14:30; without a time it is noon. Where nothing stands
-behind, the product was closed until its departure. Closures may overlap. --opens says how many days before departure
-the sale begins; if it isn't said, with the earliest booking.
+CLOSURES. FILE has a row for each time during which a product of a departure couldn't be booked. The columns of the
+departure and of the product are those of LOG, and --closed names the two others; by default they are `closed from` and
+`closed to`. A moment is a date and a time, such as 2025-02-20 14:30; a date alone means noon. If the second moment is
+missing, the product was closed until its departure. Closures may overlap. --opens says how many days before departure
+the sale begins; by default it begins with the earliest booking.
 
-READINGS. Where there are none, --readings FILE has a row for each time at which availability was read: the columns of
-the departure and of the product, and those of --read, `read on`, a moment, and --available, `available`: a number of
-seats or open, and 0 or closed. Between two readings of which one is open and the other closed it changed in the
-middle; before the first it was as at the first, and behind the last as at the last.
+READINGS. If you have no closures, --readings FILE has a row for each time at which availability was read. The columns
+of the departure and of the product are those of LOG. --read names the column of the moment, by default `read on`, and
+--available that of the availability, by default `available`: a number of seats or `open`, and 0 or `closed`. Between
+two readings, of which one is open and the other closed, it changed in the middle. Before the first reading it was as at
+the first, and after the last as at the last.
 
-WHAT IS ESTIMATED. For each product and period a rate, the seats that a whole period would sell if the product were
-open all along, and for each departure a strength, since it was a busy or a quiet one, and one of its own for each
-product of a departure. Bookings while a product was open come at random, as many on the mean as rate times both
-strengths times the share of the period in which it was open. Days count by how many bookings they have while products
-are open. The strengths spread about 1 as much as these departures show. What wasn't seen is the rate times both
-strengths times the share in which it was closed. With --network, parts of the network that no product joins have
-strengths of their own, since each is busy by itself.
+WHAT IS ESTIMATED. Each product and period has a rate: the seats that a whole period would sell if the product were open
+throughout. Each departure has a strength, because it was a busy or a quiet one, and so has each product of a departure.
+Bookings while a product is open come at random; their mean is the rate times both strengths times the share of the
+period in which it was open. Days weigh as much as the bookings that they have while products are open. The strengths
+vary about 1 as much as these departures show. The estimate of what wasn't seen is the rate times both strengths times
+the share in which the product was closed. With --network, parts of the network that no product connects have strengths
+of their own, since each is busy by itself.
 
-WHOLE NUMBERS. A network file takes whole numbers. So what wasn't seen is drawn, by Poisson's distribution about its
-mean, as many times as fit into 32 histories, three at most, or --copies N: the histories 1 to D are those of the D
-departures, then they come again with the same bookings and other draws. The same --seed gives the same rows. With
---mean nothing is drawn: each departure has its bookings and the mean of what wasn't seen, whole numbers by carrying on
-what is left from one departure to the next.
+WHOLE NUMBERS. A network file takes whole numbers. So what wasn't seen is drawn, from a Poisson distribution about its
+mean, as often as fits into 32 histories, three times at most, or --copies N times. Histories 1 to D are those of the D
+departures; then they come again with the same bookings and other draws. The same --seed gives the same rows. With
+--mean nothing is drawn: each departure has its bookings and the mean of what wasn't seen, in whole numbers; what is
+left over is carried on to the next departure.
 
-A PRODUCT THAT WAS HARDLY EVER OPEN in a period shows little of its demand there, or nothing, which is told. So one
-departure more is counted for each product. --before NETWORK, the network file that was used so far, says what was
-asked for in it: its mean demand. Where that doesn't name the product, or there is none, it is the product's level
-times the course of the sale over the periods, which is common to the dear products and to the cheap ones, or without
---network to all. A product is dear if its fare is at or above the middle of those of its journey, or if that has one
-fare, of all. One that was never open in any period has no level: without --before it gets no row, as if nobody had
-asked for it, or with --like-class the mean level of those of its class.
+A PRODUCT THAT WAS HARDLY EVER OPEN in a period shows little of its demand there, or nothing, which is reported.
+Therefore each product counts one departure more, with the demand that was expected. --before NETWORK, the network file
+that was used so far, gives this demand: the mean that was asked for in it. If it doesn't name the product, or isn't
+given, the demand is the level of the product times the course of sales over the periods; the dear products share one
+course and the cheap ones another, or all share one without --network. A product is dear if its fare is at or above the
+middle of the fares of its journey, or of all fares if its journey has one fare. A product that was never open in any
+period has no level. Without --before it gets no row, as if nobody had asked for it, or with --like-class the mean level
+of the products of its class.
 
---report FILE gets a row for each product: seats booked in a departure, how much of its demand came while it was open,
-the estimate, and its standard error. A log or a file of times that has rows that can't be read is refused: the first
-20 such rows are told.
+--report FILE gets a row for each product: the seats booked in a departure, how much of its demand came while it was
+open, the estimate, and its standard error. If LOG or the file of times has rows that can't be read, it is refused, and
+the first 20 of these rows are printed.
 """
 from __future__ import annotations
 

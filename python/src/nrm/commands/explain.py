@@ -1,16 +1,16 @@
-"""Every row of a network file that is refused, and how to mend it; of a certificate file, every line.
+"""Explains every row of a network file that is refused, and how to mend it; of a certificate file, every line.
 
     nrm-tools explain NETWORK [CERTIFICATE] [--names FILE]
 
-`nrm print NETWORK` tells the first row that it refuses, and `nrm check NETWORK CERTIFICATE` the first line. This tells
-all: of each row what the program says of it, and below that, for each field that is at fault, the line of the file as
-an editor counts it, the field and what stands in it, and how to mend it. The first that is told is the program's. A row
-that is refused still makes its name known, so no row is told for the fault of another. Which version a file is of, its
-row of periods says: with `,2` at its end it is of version 2, with authorised seats behind the seats of each leg and
-with rows of refunds.
+`nrm print NETWORK` reports the first row that it refuses, and `nrm check NETWORK CERTIFICATE` the first line. This
+command reports all of them. For each row it prints what the program says of it, and below that for each wrong field the
+line of the file as an editor counts it, the field with its contents, and how to mend it. The first that it prints is
+the one that the program reports. A refused row still makes its name known, so no row is reported for the fault of
+another. The row of periods says which version the file has: with `,2` at its end it has version 2, with authorised
+seats after the seats of each leg, and with rows of refunds.
 
-The status is 3 where something is refused, 9 where a file can't be read, and else 0. A certificate that is read may
-still be wrong: `nrm check` and `nrm-tools audit` say so.
+The status is 3 if something is refused, 9 if a file can't be read, and otherwise 0. A certificate that can be read may
+still be wrong: use `nrm check` or `nrm-tools audit`.
 """
 from __future__ import annotations
 

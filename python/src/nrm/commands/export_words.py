@@ -38,7 +38,7 @@ def day_of_word(text: str) -> datetime.date:
     try:
         return Dates([]).day(text)
     except ValueError:
-        raise Stop(f"{text} is no day: write it as 2025-03-07")
+        raise Stop(f"{text} isn't a date: write it like 2025-03-07")
 
 
 def see_export_limits(asked: argparse.Namespace) -> None:
@@ -46,22 +46,24 @@ def see_export_limits(asked: argparse.Namespace) -> None:
     stops = bool(asked.stops or asked.first_stop)
     of_network = stops and len(asked.stream) != 1
     for is_wrong, why in (
-            (bool(asked.first_stop) != bool(asked.last_stop), "--from and --to go together"),
-            (bool(asked.stops and asked.first_stop), "a journey's stops are in --stops, or in --from and --to"),
-            (bool(asked.fare and asked.amount), "--fare is of a seat and --amount of a row: say one of them"),
-            (stops and asked.network is not None, "with its stops a log makes the network that --network would say"),
-            (of_network and not (asked.fare or asked.amount), "with its stops a log wants --fare or --amount"),
-            (of_network and asked.seats_of is None, "with its stops a log wants --seats-of FILE"),
-            (not stops and asked.seats_of is not None, "--seats-of wants --from and --to, or --stops"),
-            (bool(asked.line) and not stops, "--line wants --from and --to, or --stops"),
-            (bool(asked.join) and not stops, "--join wants --from and --to, or --stops"),
+            (bool(asked.first_stop) != bool(asked.last_stop), "--from and --to must be given together"),
+            (bool(asked.stops and asked.first_stop), "--stops can't be used with --from and --to"),
+            (bool(asked.fare and asked.amount), "--fare can't be used with --amount: one is of a seat, the other of a "
+                                                "row"),
+            (stops and asked.network is not None, "--network can't be used with stops, which make the network"),
+            (of_network and not (asked.fare or asked.amount), "a log with stops needs --fare or --amount"),
+            (of_network and asked.seats_of is None, "a log with stops needs --seats-of FILE"),
+            (not stops and asked.seats_of is not None, "--seats-of needs --from and --to, or --stops"),
+            (bool(asked.line) and not stops, "--line needs --from and --to, or --stops"),
+            (bool(asked.join) and not stops, "--join needs --from and --to, or --stops"),
             (bool(asked.line or asked.join) and bool(asked.stops) and asked.train is None,
-             "--line and --join are of trains: with --stops they want --train"),
-            (asked.cents and not (asked.fare or asked.amount), "--cents wants --fare or --amount"),
-            (asked.net and not asked.cancels, "--net wants --cancels"),
-            (any(len(it) < 2 for it in asked.only), "--only wants a column and one text or more, as --only train 7501"),
-            (len(asked.stream) > 2, "--stream wants a date, and perhaps a file"),
-            (asked.leave_out < 0, f"--leave-out {asked.leave_out}: a number of rows is wanted, 0 or more")):
+             "--line and --join are for trains: with --stops they need --train"),
+            (asked.cents and not (asked.fare or asked.amount), "--cents needs --fare or --amount"),
+            (asked.net and not asked.cancels, "--net needs --cancels"),
+            (any(len(it) < 2 for it in asked.only), "--only needs a column and at least one text, such as --only "
+                                                    "train 7501"),
+            (len(asked.stream) > 2, "--stream takes a date and at most one file"),
+            (asked.leave_out < 0, f"--leave-out {asked.leave_out}: the number of rows can't be below 0")):
         if is_wrong:
             raise Stop(why)
 
@@ -70,7 +72,7 @@ def of_weekday(bookings: Sequence[Booking], weekday: str | None) -> list[Booking
     """The bookings that depart on a day of the week, or all."""
     found = [it for it in bookings if weekday in (None, WEEKDAYS[it.request.departs.weekday()])]
     if not found:
-        raise Stop(f"no departure of the log is on a {weekday}")
+        raise Stop(f"the log has no departure on a {weekday}")
     return found
 
 

@@ -1,4 +1,4 @@
-"""A journal of many desks: begun, given networks, looked at, and copied while a server writes it.
+"""Begins a journal of many desks, opens networks in it, prints it, and copies it while a server writes it.
 
     nrm-tools journal begin JOURNAL
     nrm-tools journal open JOURNAL NAME MODE FILE [--departure TIME [--begins K=TIME]...] [--program WORD...]
@@ -10,32 +10,35 @@
     nrm-tools journal look JOURNAL [NETWORK [NUMBER] [--desk NAME] [--booking NUMBER]]
     nrm-tools journal backup JOURNAL COPY
 
-A journal is an SQLite file, or the tables of a database of PostgreSQL, where JOURNAL is
-postgresql://HOST:PORT/DATABASE. In it `nrm-tools serve` keeps each line that may have changed something, with who asked
-it, when, and what was answered. `begin` makes one, a file for its owner alone; `open` puts a network into it, once
-`nrm_desks` has read its file and made the opening plan: the file byte for byte, the mode, and the checksum of that
-program, which is named by --program, or is that of this folder, or the one on the path. A server that is at work
-answers for it at once. The name begins with a small letter, and has at most 40 of `a` to `z`, `0` to `9`, `.`, `_` and
-`-`. From the second network on, with which this is said, each desk has to name its own. `freeze` has nothing booked in
-a network from now on: `book` and `reoptimise` are `denied`, bookings are cancelled and all is looked at. `thaw` has it
-sell again. `end` has a network looked at alone from now on, for good. A server that is at work carries out nothing
-behind these that they deny.
+A journal is an SQLite file or, if JOURNAL is postgresql://HOST:PORT/DATABASE, the tables of a PostgreSQL database. In
+it `nrm-tools serve` keeps each line that may have changed something, with the desk that sent it, the time and the
+reply.
 
---departure says when it departs, and --begins, as often as there are such periods, when period K begins, from 2 to the
-last of the network file: `nrm-tools serve` then has a plan made for it. A TIME is as 2026-12-31T10:00+01:00 or
-2026-12-31T09:00:00Z. Times rise with the periods, and lie before the departure; a period may be left out. `times` tells
-them, in UTC, or sets them all anew, while a server is at work too.
+`begin` makes a journal; a file is for its owner alone. `open` adds a network, once `nrm_desks` has read its file and
+made the opening plan: it stores the file byte for byte, the mode, and the checksum of that program. --program names the
+program; by default it is that of this folder, or the one on the path. A running server answers for the network at once.
+NAME begins with a small letter, and has at most 40 characters of `a` to `z`, `0` to `9`, `.`, `_` and `-`. Once a
+journal has a second network, which `open` reports, each desk must name its own.
 
-`import` puts a network into it with the lines of OLD, the text journal that `nrm-tools desks` of earlier releases kept,
-and `tools/desks.py` before it; the mode and the network file are those of that session. They are carried out once more,
-by the desk `IMPORT`, while no server is at work, but for those whose numbers stand in OLD.void, which were answered
-`memory` or `store` then. What has no row is told: these lines, those that change nothing, and half a line at the end.
+`freeze` stops sales in a network: `book` and `reoptimise` are `denied`, while bookings can be cancelled and everything
+can be read. `thaw` lets it sell again. `end` leaves a network for reading alone, for good. After these a running server
+carries out no further line that they deny.
 
-`look` tells all networks, a line each: name, mode, lines, when it was begun, whether it is frozen, has ended, or is halted and why,
-and the checksum of its program. With a network it writes its lines, with one tab between number, time, desk, the desk's
-own number, line and reply: all of them, the one of a number, those of a desk, or those of a booking. It and `backup`,
-which makes a copy that is a journal too, may be used while a server is at work, as `sqlite3 -readonly` may. `backup`
-and `import` are for files.
+--departure sets the departure, and --begins, once for each such period, when period K begins, from 2 to the last of the
+network file: `nrm-tools serve` then makes a plan for it. A TIME is such as 2026-12-31T10:00+01:00 or
+2026-12-31T09:00:00Z. Times rise with the periods and are before the departure; a period may be left out. `times` prints
+them, in UTC, or replaces all of them, also while a server runs.
+
+`import` adds a network with the lines of OLD, the text journal of `nrm-tools desks` in earlier releases, and of
+`tools/desks.py` before it; MODE and FILE are those of that session. The desk `IMPORT` carries the lines out once more,
+while no server runs, except those whose numbers are in OLD.void, which were answered `memory` or `store` then. It
+reports what gets no row: these lines, those that change nothing, and an unfinished line at the end.
+
+`look` prints a line for each network: its name and mode, how many lines it has, when it was opened, whether it is
+frozen, ended or halted, with the reason, and the checksum of its program. With NETWORK it prints the lines of this
+network, with tabs between number, time, desk, the desk's own number, line and reply: all lines, or the one with NUMBER,
+those of a desk, or those of a booking. `backup` makes a copy that is a journal too. Both can be used while a server
+runs, and so can `sqlite3 -readonly`. `backup` and `import` are for files.
 """
 from __future__ import annotations
 
@@ -44,7 +47,7 @@ import re
 from typing import Sequence
 
 from nrm import bytes_in
-from nrm.commands.running import parser, tell
+from nrm.commands.running import parser, refused_word, tell
 from nrm.desks_program import see_that_it_opens
 from nrm.journal.choosing_store import store_of, using
 from nrm.journal.importing import TextJournal, import_network
@@ -64,7 +67,7 @@ FOR_FILES = "import", "backup"
 def number(text: str) -> int:
     """A number of a line or of a booking."""
     if not re.fullmatch("0|[1-9][0-9]{0,14}", text):
-        raise ValueError
+        raise refused_word(text, "a whole number of at most 15 digits")
     return int(text)
 
 
@@ -74,19 +77,23 @@ def words_of(given: Sequence[str]) -> tuple[argparse.ArgumentParser, argparse.Na
     words.add_argument("way", choices=WAYS, metavar="WAY")
     words.add_argument("journal", metavar="JOURNAL")
     words.add_argument("words", nargs="*", metavar="WORD")
-    words.add_argument("--program", nargs="+", metavar="WORD", help="what runs `nrm_desks`")
-    words.add_argument("--desk", metavar="NAME", help="the lines of a desk")
-    words.add_argument("--booking", type=number, metavar="NUMBER", help="the lines of a booking")
-    words.add_argument("--departure", metavar="TIME", help="when the network departs")
-    words.add_argument("--begins", action="append", default=[], metavar="K=TIME", help="when period K begins")
+    words.add_argument("--program", nargs="+", metavar="WORD",
+                       help="the program nrm_desks and its first arguments; by default that of this folder, or the "
+                            "one on the path")
+    words.add_argument("--desk", metavar="NAME", help="print only the lines of this desk")
+    words.add_argument("--booking", type=number, metavar="NUMBER", help="print only the lines of this booking")
+    words.add_argument("--departure", metavar="TIME", help="the time at which the network departs")
+    words.add_argument("--begins", action="append", default=[], metavar="K=TIME",
+                       help="the time at which period K begins; may be given once for each period")
     asked = words.parse_args(given)
     least, most = WAYS[asked.way]
     if not least <= len(asked.words) <= most:
-        words.error(f"`{asked.way}` has {most} words behind the journal, and not {len(asked.words)}")
+        words.error(f"`{asked.way}` takes {'at most ' if least < most else ''}{most} word{'' if most == 1 else 's'} "
+                    f"after JOURNAL, and {len(asked.words)} were given")
     if (asked.departure is not None or asked.begins) and asked.way not in ("open", "times"):
-        words.error("--departure and --begins are for `open` and `times`")
+        words.error("--departure and --begins can be used with `open` and `times` only")
     if asked.begins and asked.departure is None:
-        words.error("--begins wants --departure too")
+        words.error("--begins can be used with --departure only")
     return words, asked
 
 
@@ -129,7 +136,7 @@ def say_if_second(path: str, name: str) -> None:
     with using(path) as connection:
         count = len(networks_in(connection))
     if count == 2:
-        tell("journal", f"{name} is the second network: from now on a desk that names none is answered "
+        tell("journal", f"{name} is the second network: from now on a desk that names none gets "
                         "`closed network`")
 
 
@@ -140,8 +147,8 @@ def look(words: argparse.ArgumentParser, asked: argparse.Namespace) -> None:
         return
     try:
         wanted = WantedLines(number(asked.words[1]) if asked.words[1:] else None, asked.desk, asked.booking)
-    except ValueError:
-        words.error(f"{asked.words[1]!r} is no number of a line")
+    except argparse.ArgumentTypeError as why:
+        words.error(f"NUMBER: {why}")
     for line in lines_of(asked.journal, asked.words[0], wanted):
         print(line)
 
@@ -150,7 +157,7 @@ def run(given: Sequence[str]) -> int:
     """Does what the first word says."""
     words, asked = words_of(given)
     if asked.way in FOR_FILES and store_of(asked.journal).is_shared:
-        words.error(f"`{asked.way}` is for a journal in a file")
+        words.error(f"`{asked.way}` can be used with a journal in a file only")
     times = times_in(asked.departure, asked.begins) if asked.departure is not None else None
     if asked.way == "begin":
         store_of(asked.journal).begin()
@@ -158,7 +165,7 @@ def run(given: Sequence[str]) -> int:
         times_of_one(asked.journal, asked.words[0], times)
     elif asked.way in ("open", "import"):
         if asked.words[1] not in MODES:
-            words.error(f"the mode is one of {', '.join(MODES)}")
+            words.error(f"MODE: {asked.words[1]!r} isn't one of: {', '.join(MODES)}")
         program = Program.found(asked.program, "nrm_desks")
         if asked.way == "open":
             name, mode, file = asked.words

@@ -35,9 +35,9 @@ def see_limits(asked: argparse.Namespace) -> None:
     if asked.last is not None and not 1 <= asked.last <= MOST_HISTORIES:
         raise Stop(f"--last {asked.last}: a network file takes 1 to {MOST_HISTORIES} histories")
     if any(len(it) < 2 for it in asked.same):
-        raise Stop("--same wants two names of a train or more, the one that it has now at the end")
+        raise Stop("--same needs at least two names of a train, the present one last")
     if any(len(it) < 2 for it in asked.without):
-        raise Stop("--without wants a column and one text or more, as --without status cancelled")
+        raise Stop("--without needs a column and at least one text, such as --without status cancelled")
 
 
 def requests_of(asked: argparse.Namespace, tell: Callable[[str], None]) -> list[Request]:
@@ -55,10 +55,10 @@ def names_told(names: Mapping[str, str], legs: Iterable[str], products: Sequence
                path: str | None) -> Iterator[str]:
     """Which names were made, or how many if a list at a path has them, and if there are too many for one file."""
     if len(products) > MOST_PRODUCTS:
-        yield (f"a network file takes {MOST_PRODUCTS} products: with its legs and fares `nrm-tools split` cuts it into "
-               "files")
+        yield (f"a network file takes at most {MOST_PRODUCTS} products: once it has legs and fares, `nrm-tools split` "
+               "splits it into files")
     made = [text for text in [*legs, *products] if names[text] != text]
     if path:
-        yield f"names made {len(made)}; {said(path)} lists what they stand for"
+        yield f"{len(made)} name{' was' if len(made) == 1 else 's were'} made; {said(path)} lists what they stand for"
     else:
         yield from (f"{names[text]} stands for {text!r}" for text in made)

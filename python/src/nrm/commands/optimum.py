@@ -1,26 +1,26 @@
-"""EMSR-b beside the optimum on one leg: what is protected by each, and what each earns.
+"""Compares EMSR-b with the optimum on one leg: the protection levels of each, and what each earns.
 
     nrm-tools optimum NETWORK LEG [--out FOLDER] [--names FILE] [--program WORD...]
 
-The classes are the products whose only leg is LEG, 1 to 10 of them, and they have all its authorised seats to
-themselves: what is sold over several legs has no part in this. The optimum is that of `nrm dp`. EMSR-b's protections
-are those of `nrm plan davn` on a network of this leg and these classes alone, with a bucket for each fare. Prints, for
-each class, its fare, its mean demand in a history, and how many seats are protected from it by each for the classes
-above; and the mean revenue of a history by each, the second one worked out in exact fractions by the same model, with
-its share of the optimum.
+The classes are the products whose only leg is LEG, 1 to 10 of them. They have all its authorised seats to themselves:
+products of several legs have no part in this. The optimum is that of `nrm dp`. EMSR-b's protection levels are those of
+`nrm plan davn` on a network of this leg and these classes alone, with a bucket for each fare. The tables have for each
+class its fare, its mean demand in a history, and how many seats each method protects from it for the classes above.
+Then come the mean revenue of a history by each method, the second one computed in exact fractions by the same model,
+and its share of the optimum.
 
-With --out the revenue over the number of seats, what each further seat adds to it, which is the bid price of that seat,
-and the protections are drawn, as optimum.png and optimum.svg in FOLDER. That needs matplotlib (Debian's
+With --out FOLDER it also draws, as optimum.png and optimum.svg, the revenue over the number of seats, what each further
+seat adds to it, which is the bid price of that seat, and the protection levels. This needs matplotlib (Debian's
 python3-matplotlib).
 
-WHAT THE NUMBERS MEAN. The model has the classes come one after the other, from the lowest fare to the highest. Each
-class asks for what it did in one of the histories, each as likely, and whatever the other classes ask for. If it comes
-so, no rule of control earns more on the mean than the optimum. Where it doesn't come so, the optimum is no bound and no
-forecast. If classes come in another order, what a dear class asks for may be known before the seats are gone, and a
-control that makes use of that can earn more. If the demand of classes rises and falls together, as it does where some
-days are busy for all, then the same protections earn more or less than is told here. EMSR-b itself reads the histories
-as they are, with what is common to the classes in them. So the share says how near EMSR-b's rule comes on this leg in a
-plain model. What protections earn in your seasons, with the other legs and with new plans, `nrm-tools replay` says.
+WHAT THE NUMBERS MEAN. In the model the classes come one after the other, from the lowest fare to the highest. Each
+class asks for what it asked for in one of the histories, all equally likely, whatever the other classes ask for. If
+demand comes like this, no control earns more on average than the optimum. If it doesn't, the optimum is neither a bound
+nor a forecast. If classes come in another order, the demand of a dear class may be known before the seats are gone, and
+a control that uses this can earn more. If the demand of the classes rises and falls together, because some days are
+busy for all, the same protection levels earn more or less than is printed here. EMSR-b itself reads the histories as
+they are, with what the classes have in common. So the share says how close EMSR-b's rule comes on this leg in a plain
+model. `nrm-tools replay` says what protection levels earn in your seasons, with the other legs and with new plans.
 """
 from __future__ import annotations
 

@@ -1,12 +1,12 @@
-"""Past seasons played again: what each mode would have earned in them, without knowing them.
+"""Plays past seasons again: what each mode would have earned in them, without knowing them.
 
     nrm-tools replay NETWORK [--seed NUMBER] [--program WORD...]
 
-Each history in its turn is taken out of NETWORK and becomes the season: its requests, a seat each, in the order of the
-periods and mixed within each period by the seed, with a line `reoptimise` at the start of each period but the first.
-`nrm` answers them in the three modes on the network of the other histories. It says which mode earns most, and prints
-the bound of hindsight of each history, and how much of it each mode earns; nothing is cancelled, so nothing is
-withheld. `nrm-tools simulate --leave-out` plays the same seasons many times, each in another order.
+Each history in turn is taken out of NETWORK and becomes the season: its requests, for one seat each, in the order of
+the periods and shuffled within each period by the seed, with a line `reoptimise` at the start of each period but the
+first. `nrm` answers them in the three modes on the network of the other histories. The output says which mode earns
+most, and prints the bound of hindsight of each history and how much of it each mode earns. Nothing is cancelled, so
+nothing is withheld. `nrm-tools simulate --leave-out` plays the same seasons many times, each in another order.
 """
 from __future__ import annotations
 
@@ -15,7 +15,7 @@ from dataclasses import dataclass
 from fractions import Fraction
 from typing import Sequence
 
-from nrm import Stop, bytes_in
+from nrm import Stop, bytes_in, said
 from nrm.commands.running import add_program, parser, whole_number
 from nrm.network import Network
 from nrm.pages.heads import lines_of, made_of
@@ -36,7 +36,7 @@ def run(given: Sequence[str]) -> int:
     add_program(words)
     asked = words.parse_args(given)
     if Network.read(asked.network).histories < 2:
-        raise Stop("it takes two histories, one to play and one to know")
+        raise Stop(f"replay needs two histories, one to play and one to know, and {said(asked.network)} has one")
     program, source = Program.found(asked.program), bytes_in(asked.network)
     with tempfile.TemporaryDirectory() as folder:
         player = Player(source, Settings(seed=asked.seed, leave_out=True), program, folder)

@@ -1,19 +1,19 @@
-"""After a cut: at which line a stream goes on, and the program going on there.
+"""Finds the line at which to continue a stream after a cut, and continues the session there.
 
     nrm-tools resume NETWORK MODE STREAM REPLIES [--go-on] [--program WORD...]
 
-STREAM has the lines so far, in their order, and REPLIES what was kept of the replies; the last one may be cut. The
-program is run over the stream, and what was kept must be a front of what it answers: otherwise it is told where the two
-part, and the status is 1. What is told is the first line without a whole reply, and how many bytes the whole replies
-before it have.
+STREAM has the lines so far, in their order, and REPLIES what was kept of the replies; the last reply may be cut. The
+command runs the program over the stream, and what was kept must be the beginning of what it answers: if it isn't, the
+command says where the two differ, and the status is 1. It prints the first line without a whole reply, and how many
+bytes the whole replies before it have.
 
-With --go-on that is told on standard error. Then the program is run over the lines before that one, whose replies are
-compared and not written again, and goes on with the lines of standard input; its replies and its status are passed on.
-Of the lines before, it is given those alone that can have changed something: what they were answered begins with `ok`,
+With --go-on it prints this on standard error. Then it runs the program over the lines before that one, compares the
+replies and doesn't write them again, and continues with the lines of standard input; it passes on the program's replies
+and status. Of the lines before, it sends only those that can have changed something: their replies begin with `ok`,
 `no`, `cancelled` or `optimised`.
 
-A line that was answered `memory` changed nothing, and may be answered otherwise another time, so it is never given
-again. If what was kept ends inside `memory`, the line has no whole reply, and the stream goes on there.
+A line that was answered `memory` changed nothing, and may be answered otherwise another time, so it is never sent
+again. If what was kept ends within `memory`, the line has no whole reply, and the stream continues there.
 """
 from __future__ import annotations
 
@@ -39,6 +39,6 @@ def run(given: Sequence[str]) -> int:
     program, kept = Program.found(asked.program), CutSession(asked.network, asked.mode, asked.stream, asked.replies)
     kept.see_that_its_files_can_be_read()  # before anything is run
     place = place_to_go_on_at(kept, program)
-    print(f"go on at line {place.line}; {place.size} bytes of whole replies stand before it",
+    print(f"continue at line {place.line}; {place.size} bytes of whole replies come before it",
           file=sys.stderr if asked.go_on else sys.stdout)
     return go_on(kept, program, place.line) if asked.go_on else 0

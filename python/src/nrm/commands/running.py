@@ -4,6 +4,7 @@ from __future__ import annotations
 import argparse
 import importlib.util
 import os
+import re
 import signal
 import subprocess
 import sys
@@ -18,6 +19,18 @@ from nrm.records.name_lists import texts_in
 TOOLS = "nrm-tools"
 SOURCES, OF_DEBIAN = TOP / "python" / "src", "/usr/lib/python3/dist-packages"
 SEEN = "\n\t"  # what may stand in what is told
+SENTENCES = (  # what argparse says of a mistake, beginning with an argument's name or none, and what is said in its place
+    (r"argument (\S+): invalid choice: (.+) \(choose from (.+)\)", "{0}: {1} isn't one of: {2}"),
+    (r"argument (\S+): expected one argument", "{0} needs a value"),
+    (r"argument (\S+): expected at least one argument", "{0} needs at least one value"),
+    (r"argument (\S+): expected (\d+) arguments", "{0} needs {1} values"),
+    (r"argument (\S+): ignored explicit argument .*", "{0} takes no value"),
+    (r"argument (\S+): not allowed with argument (\S+)", "{0} can't be used with {1}"),
+    (r"argument (\S+): (.*)", "{0}: {1}"),
+    (r"one of the arguments (.+) is required", "one of {0} must be given"),
+    (r"the following arguments are required: (.+)", "{0} must be given"),
+    (r"unrecognized arguments:() (.+)", "this command doesn't take {1}"),
+    (r"ambiguous option: (\S+) could match (.+)", "{0} could be any of {1}"))
 Run = Callable[[Sequence[str]], int]
 
 
@@ -27,10 +40,20 @@ def title(name: str) -> str:
 
 
 class Words(argparse.ArgumentParser):
-    """A reader of words, which says what can't be seen in a word that is wrong."""
+    """A reader of words, which says in a sentence what is wrong, and what can't be seen in a word."""
 
     def error(self, message: str) -> NoReturn:
-        super().error(said(message, "\n"))
+        super().error(said(sentence_of(message), "\n"))
+
+
+def sentence_of(message: str) -> str:
+    """What argparse says of a mistake, as a sentence in the words of the usage."""
+    message = re.sub(r"(?<=\(choose from ).+(?=\)$)", lambda it: it[0].replace("'", ""), message)
+    for pattern, sentence in SENTENCES:
+        if found := re.fullmatch(pattern, message, re.DOTALL):
+            name, *rest = found.groups()
+            return sentence.format(re.sub(r"(?<![\w-])[a-z]+", lambda it: it[0].upper(), name), *rest)
+    return message
 
 
 def parser(name: str, manual: str) -> argparse.ArgumentParser:
@@ -42,7 +65,7 @@ def parser(name: str, manual: str) -> argparse.ArgumentParser:
 
 def refused_word(text: str, wanted: str) -> argparse.ArgumentTypeError:
     """What is said of a word that isn't what is wanted."""
-    return argparse.ArgumentTypeError(f"{text!r}: {wanted} is wanted")
+    return argparse.ArgumentTypeError(f"{text!r} isn't {wanted}")
 
 
 def whole_number(text: str) -> int:
@@ -65,13 +88,15 @@ def at_least(least: int, most: int) -> Callable[[str], int]:
 def add_program(words: argparse.ArgumentParser) -> None:
     """The option for which program is run, among the words of a command."""
     words.add_argument("--program", nargs="+", metavar="WORD",
-                       help="what runs `nrm`; else it is the program of this folder, or the one on the path")
+                       help="the program nrm and its first arguments; by default that of this folder, or the one on "
+                            "the path")
 
 
 def add_names(words: argparse.ArgumentParser) -> None:
     """The option for what names stand for, among the words of a command."""
     words.add_argument("--names", metavar="FILE",
-                       help="a list of what names stand for, as `nrm-tools log` writes it: its texts stand beside them")
+                       help="a list of what names stand for, as `nrm-tools log` writes it; its texts are shown beside "
+                            "the names")
 
 
 def asked_with_texts(words: argparse.ArgumentParser, given: Sequence[str]) -> tuple[argparse.Namespace, dict[str, str]]:

@@ -1,32 +1,30 @@
-"""A season in the three modes: its numbers as tables, four pictures of them, and a page with both.
+"""Plays one season in the three modes: its numbers as tables, four pictures of them, and a page with both.
 
     nrm-tools season NETWORK STREAM [--out FOLDER] [--leg LEG] [--decimal] [--names FILE]
                      [--program WORD...]
 
-`nrm` answers the lines of STREAM on NETWORK under `first`, `bid` and `davn`. It says what each mode earns, in a
-sentence, and what it was made of: the files, the day and the versions. Then it prints the revenue of each mode beside
-the bound of hindsight, what it has withheld of cancelled bookings where some product's refund is below 100 per cent,
-and the bid prices of each leg, at the opening, at each line `reoptimise` and at the end; the seats of one leg, sold,
-left and protected; and of how many requests each product was refused. The seats left are those of the authorised
-seats. A table of nothing but zeros is left out, and named.
+`nrm` answers the lines of STREAM on NETWORK under `first`, `bid` and `davn`. The output says in a sentence what each
+mode earns, and what it was made of: the files, the day and the versions. Then come tables: the revenue of each mode
+beside the bound of hindsight; what it withheld of cancelled bookings, if the refund of some product is below 100 per
+cent; the bid prices of each leg, at the opening, at each line `reoptimise` and at the end; the seats of one leg, sold,
+left and protected; and how many requests for each product were refused. The seats left are those of the authorised
+seats. A table that has nothing but zeros is omitted, and named.
 
-The tables come on standard output; the pictures go to FOLDER, the current one where nothing is said, each as PNG and as
-SVG, and are the same each time. They need matplotlib (Debian's python3-matplotlib). Tables and pictures are in
-season.html too, a page that stands alone in one file, without scripts; it needs jinja2 (python3-jinja2). If the Python
-that was asked lacks one and /usr/bin/python3 has both, a checkout's command goes on under that one, as `simulate` does.
-What isn't there is told, and the tables come in any case. LEG is the leg whose seats are drawn, by default the one of
-which most seats were asked for. With --decimal the tables have decimals in the place of fractions, as a spreadsheet
-wants them.
+Tables go to standard output. Pictures go to FOLDER, by default the current one, each as PNG and as SVG, and are the
+same each time. They need matplotlib (Debian's python3-matplotlib). Tables and pictures are in season.html too, a page
+in one file without scripts; it needs jinja2 (python3-jinja2). If the Python that runs this lacks one of the two and
+/usr/bin/python3 has both, the command of a checkout continues under that one, as `simulate` does. It reports what it
+can't make, and prints the tables in any case. LEG is the leg whose seats are drawn, by default the one of which most
+seats were asked for. With --decimal the tables have decimals instead of fractions, for a spreadsheet.
 
-JOINED LEGS. Where the list of --names says that a leg was joined at some stops, and the stream asks for more seats of
-it than it has, the first sentence says that the amounts are of another train than the one that ran.
+JOINED LEGS. If the list of --names says that a leg was joined at some stops, and the stream asks for more seats of it
+than it has, the first sentence says that the amounts are of another train than the one that ran.
 
-HOW REPLIES ARE TOLD APART. Before the first line, behind each line `reoptimise K` of a period that the network has, and
-behind the last line, the lines `plan`, `leg LEG` for each leg, and `hindsight` are put into the stream. None of them
-changes what any other line is answered. Each line has one reply, and each reply one line, but for two: the text of a
-plan goes on with lines that begin with `product`, `leg` and a fraction, `nest` or `protect`, and that of a leg with
-lines that begin with `on`. So the replies are dealt out to the lines in order, and those to the lines put in are taken
-away.
+HOW REPLIES ARE TOLD APART. The command puts the lines `plan`, `leg LEG` for each leg, and `hindsight` into the stream:
+before the first line, after each line `reoptimise K` of a period that the network has, and after the last line. None of
+them changes the reply to another line. Each line has one reply, and each reply one line, but for two: the text of a
+plan continues with lines that begin with `product`, `leg` and a fraction, `nest` or `protect`, and that of a leg with
+lines that begin with `on`. So the command matches the replies to the lines in order, and removes those to its own.
 """
 from __future__ import annotations
 
@@ -61,7 +59,7 @@ def run(given: Sequence[str]) -> int:
     made = made_of({"network": {asked.network: bytes_in(asked.network)},
                     "stream": {asked.stream: bytes_in(asked.stream)}}, program)
     print(verdict(season), "", *lines_of(made), "", *left_out, *([""] if left_out else []), sep="\n")
-    print("Each point of the season is behind a line of the stream:",
+    print("Each point of the season comes after a line of the stream:",
           *[f"{name} {number}" for number, name in season.stream.points],
           sep="\n  ")
     for table in told:

@@ -21,14 +21,14 @@ if TYPE_CHECKING:
     from nrm.seasons.search_trials import Trials  # which needs Dask
 
 MOST_SEASONS = 10_000_000
-SHARE = "a number from 0 to 1, as 0.05,"
+SHARE = "a number from 0 to 1, such as 0.05"
 EXACT = re.compile(r"[0-9]+\.?[0-9]*|\.[0-9]+")
 PATIENCE, MOST_PATIENCE = 300, 1_000_000  # seconds
 
 
 def read_parties(text: str) -> tuple[tuple[int, float], ...]:
     """Sizes of parties and their weights."""
-    wanted = f"a list of sizes from 1 to {LARGEST_PARTY}, each with its weight, as 1:80,2:15,4:5,"
+    wanted = f"a list of sizes from 1 to {LARGEST_PARTY}, each with its weight, such as 1:80,2:15,4:5"
     try:
         pairs = tuple((number(size), number(weight)) for size, weight in (it.split(":") for it in text.split(",")))
     except ValueError:
@@ -90,7 +90,7 @@ def add_workers(words: argparse.ArgumentParser) -> None:
 def see_workers(words: argparse.ArgumentParser, asked: argparse.Namespace) -> None:
     """Refuses keys without a scheduler that takes them."""
     if asked.tls and not (asked.cluster or "").startswith("tls://"):
-        words.error("--tls goes with --cluster tls://ADDRESS")
+        words.error("--tls can be used with --cluster tls://ADDRESS only")
 
 
 def see_dask(name: str, given: Sequence[str]) -> None:

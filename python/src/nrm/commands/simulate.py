@@ -1,58 +1,58 @@
-"""Many seasons in the three modes on the same requests: what each earns, by how much they differ, and how sure that is.
+"""Plays many seasons in the three modes on the same requests: what each earns, how they differ, and how sure that is.
 
     nrm-tools simulate NETWORK... --seasons N [--seed S] [--out FOLDER] [--modes MODE...] [--demand HOW] [--order HOW]
                        [--parties SIZE:WEIGHT,...] [--cancel P] [--show P --denied-cost C] [--leave-out] [--averaged]
                        [--workers N | --cluster ADDRESS [--tls CA CERTIFICATE KEY]] [--patience SECONDS]
                        [--names FILE] [--program WORD...]
 
-For each NETWORK and season requests are drawn, with a line `reoptimise` at the start of each period but the first, and
-`nrm` answers them in each mode. First it says in a sentence which mode, or network, earns most, by how much and how
-sure that is. Below are the revenue of each mode with its standard error and its share of the bound of hindsight; the
-difference of each two modes on the same requests, with its 95 per cent interval; the load of each leg; and the share of
-the requests for each product that was refused.
+For each NETWORK and season it draws requests, with a line `reoptimise` at the start of each period but the first, and
+`nrm` answers them in each mode. The output first says in a sentence which mode, or network, earns most, by how much,
+and how sure that is. Below are the revenue of each mode with its standard error and its share of the bound of
+hindsight; the difference of each two modes on the same requests, with its 95 per cent interval; the load of each leg;
+and the share of the requests for each product that was refused.
 
 SEVERAL NETWORKS are played on the same draws, whatever differs in them, and compared in each mode season by season:
-what each earns less than the one that earns most, and if they are six or fewer, the difference of each two. Beside the
-most the intervals are wider the more networks there are, so that those of all pairs hold at once in 95 of 100 runs or
-more; what truly earns most is then the one marked so or one whose interval reaches 0. If they differ in the seats,
-thresholds or refunds alone, their seasons are those that each has by itself. If they differ in more, the history is the
-same and each product's requests are drawn by its name: so a product that has the same name and demand in two networks
-asks for the same there.
+what each earns less than the one that earns most and, if there are at most six, the difference of each two. The
+intervals beside the most are wider the more networks there are, so that those of all pairs hold at once in 95 of 100
+runs or more. What truly earns most is then the one marked so, or one whose interval reaches 0. If the networks differ
+only in seats, thresholds or refunds, their seasons are those that each has by itself. If they differ in more, the
+history is the same, and each product's requests are drawn by its name: a product that has the same name and demand in
+two networks asks for the same there.
 
-HOW A SEASON IS DRAWN. --demand histories: the requests of a history, each as likely (the default); independent: those
-of a history for each product, drawn apart; poisson: numbers about the mean of the histories, for each product and
-period apart. --order: within a period mixed (the default), or low-first, by fare. --parties 1:80,2:15,4:5: of 100
-requests 80 are for a seat, 15 for two and 5 for four; the seats that are asked for stay the same, so the last party of
-a product in a period may be smaller. --cancel 0.1: each booking is cancelled with this probability, at a line drawn
-from those after it. --show 0.9: each seat booked at the end is taken with this probability; those taken beyond the
-physical seats of a leg are denied boardings, at --denied-cost each. --leave-out: plans are made without the history
-that is played. The same --seed gives the same seasons.
+HOW A SEASON IS DRAWN. --demand histories takes the requests of one history, all equally likely (the default);
+independent draws a history for each product apart; poisson draws numbers about the mean of the histories, for each
+product and period apart. --order is mixed within a period (the default), or low-first, by fare. With --parties
+1:80,2:15,4:5, of 100 requests 80 are for one seat, 15 for two and 5 for four; the seats asked for stay the same, so the
+last party of a product in a period may be smaller. With --cancel 0.1 each booking is cancelled with this probability,
+at a line drawn from those after it. With --show 0.9 each seat booked at the end is taken with this probability; those
+taken beyond the physical seats of a leg are denied boardings, at --denied-cost each. With --leave-out plans are made
+without the history that is played. The same --seed gives the same seasons.
 
-BESIDE THE MODES --averaged plays bid prices that are averaged over the histories, a control that `nrm` hasn't: a desk
-makes them anew at the start of each period, asks only for requests whose fare is at least the prices of their legs, and
-has them sold by `nrm run first`. `nrm-tools averaged` says more of them. They take as many plans a season as there are
-histories times periods, and aren't played with --cancel.
+BESIDE THE MODES --averaged plays bid prices that are averaged over the histories, a control that `nrm` doesn't have: a
+desk computes them again at the start of each period, sends only requests whose fare is at least the prices of their
+legs, and `nrm run first` sells these. `nrm-tools averaged` says more about them. They take as many plans a season as
+there are histories times periods, and can't be used with --cancel.
 
-JOINED LEGS. Where the list of --names says that a leg was joined at some stops, and histories ask for more seats of it
+JOINED LEGS. If the list of --names says that a leg was joined at some stops, and histories ask for more seats of it
 than it has, the first sentence says that the amounts are of another train than the one that ran.
 
-WHERE IT RUNS. It needs Dask (Debian's python3-distributed, which is for /usr/bin/python3: if the Python that was asked
-has no Dask and that one has, a checkout's command goes on under that one). It starts as many processes as there are
-processors, or --workers, on this machine. They talk by TLS, with keys that are made for the run and are in memory alone
-(it takes Debian's python3-cryptography), so no other account of the machine can use them. With --cluster it uses the
+WHERE IT RUNS. It needs Dask (Debian's python3-distributed, for /usr/bin/python3: if the Python that runs this has no
+Dask and that one has, the command of a checkout continues under that one). It starts as many processes on this machine
+as there are processors, or --workers. They communicate by TLS, with keys that are made for the run and stay in memory
+(this needs Debian's python3-cryptography), so no other account of the machine can use them. With --cluster it uses the
 workers of the Dask scheduler at ADDRESS, each of which must be able to run the words of --program. A scheduler without
-TLS runs anything for anybody who reaches it, and on the machine of each who asks it: so let it be tls://ADDRESS, and
-give with --tls the files of the certificate that signs for it, of your certificate and of your key, all as PEM. The
-workers are sent these tools. One whose program or whose tools aren't those of this machine, byte for byte, is refused
-with both checksums. If no seasons come back, since a worker was stopped or is lost, that is told after 30 seconds, and
-ends the run after --patience, by default 300. The results don't depend on where it runs.
+TLS runs anything for anybody who reaches it, there and on the machine of each client: so use tls://ADDRESS, and give
+with --tls the PEM files of the authority's certificate, of your certificate and of your key. The workers are sent these
+tools. A worker whose program or tools differ from those of this machine in a byte is refused, with both checksums. If
+no seasons come back, because a worker was suspended or lost, it says so after 30 seconds, and ends the run after
+--patience, by default 300. The results don't depend on where it runs.
 
-WHAT IS WRITTEN. The summary comes on standard output, progress on standard error. With --out FOLDER there are also
+WHAT IS WRITTEN. The summary goes to standard output, progress to standard error. With --out FOLDER there are also
 summary.txt, simulate.html with the same and the pictures, each picture as SVG, and for each network NAME-seasons.csv
 with a row for each season and mode. The pictures need matplotlib (Debian's python3-matplotlib), the page jinja2
-(python3-jinja2); what isn't there is told, and the rest comes in any case. A run that was cut, by Ctrl-C too, has kept
-the seasons that were done, and the same line goes on from there; so does one with more seasons. Without --out nothing
-is kept.
+(python3-jinja2); it reports what it can't make, and writes the rest. A run that was interrupted, by Ctrl-C or
+otherwise, has kept the seasons that were done, and the same command continues from there, also with more seasons.
+Without --out nothing is kept.
 """
 from __future__ import annotations
 
@@ -127,11 +127,11 @@ def words_of(given: Sequence[str]) -> argparse.Namespace:
     asked = words.parse_args(given)
     see_workers(words, asked)
     if (asked.show is None) != (asked.denied_cost is None):
-        words.error("--show and --denied-cost go together")
+        words.error("--show and --denied-cost must be given together")
     if asked.leave_out and asked.demand != "histories":
-        words.error("--leave-out goes with --demand histories alone: with the others no one history is played")
+        words.error("--leave-out can be used with --demand histories only: the others don't play a single history")
     if asked.averaged and asked.cancel:
-        words.error("--cancel isn't played by averaged prices")
+        words.error("--cancel can't be used with --averaged")
     return asked
 
 
@@ -148,7 +148,7 @@ def names_of(paths: Sequence[str]) -> list[str]:
     names = [stem if stems.count(stem) == 1 else re.sub(r"[^\w.-]+", "-", str(Path(path).with_suffix(""))).strip("-.")
              for stem, path in zip(stems, paths)]
     if len(set(names)) < len(names):
-        raise Stop(f"a network is named twice: {max(names, key=names.count)}")
+        raise Stop(f"two networks have the same name: {max(names, key=names.count)}")
     return names
 
 

@@ -1,4 +1,4 @@
-"""Thresholds of the legs: from the fares, from what products bring a leg, or searched for by seasons.
+"""Finds thresholds for the legs: from the fares, from the adjusted fares, or by a search that plays seasons.
 
     nrm-tools thresholds NETWORK GROUPS [--adjusted gaps|cost] [--out FILE] [--pictures FOLDER] [--names FILE]
                          [--program WORD...]
@@ -8,30 +8,31 @@
                          [--names FILE] [--program WORD...]
 
 For each leg that a product uses, `nrm cuts` divides the fares on it into at most GROUPS groups, 1 to 10, so that the
-seats that were asked for lie as close to the centres of their groups as can be: the cost is the sum, over the seats of
-all histories, of the distance of the fare from the centre. Says how many buckets that makes, and prints, for each leg,
-the cuts, the centres, the cost, and the cost for each seat. A cut is the least fare of its group, and as a threshold of
-the leg it ends a bucket there: NETWORK's own thresholds have no say.
+seats asked for are as close to the centres of their groups as they can be: the cost is the sum, over the seats of all
+histories, of the distance of the fare from the centre. The output says how many buckets that makes, and has for each
+leg the cuts, the centres, the cost, and the cost of each seat. A cut is the least fare of its group, and as a threshold
+of the leg it ends a bucket there. NETWORK's own thresholds don't matter.
 
-WHICH FARES. A product of several legs stands on each of them with its whole fare. Its bucket, though, comes from what
-it brings the leg: its fare less the bid prices of the other legs. --adjusted takes these adjusted fares, of the opening
-plan: `gaps` parts them at the GROUPS - 1 largest gaps, and `cost` as `nrm cuts` would divide them. Each cut is halfway
-between two fares then, since prices change with each plan. Adjusted fares count in whole numbers, rounded down, and at
-least as 1.
+WHICH FARES. A product of several legs has its whole fare on each of them. Its bucket, though, depends on what it brings
+the leg: its fare less the bid prices of the other legs. --adjusted uses these adjusted fares, by the opening plan:
+`gaps` separates them at the GROUPS - 1 largest gaps, and `cost` as `nrm cuts` would divide them. Each cut is then
+halfway between two fares, since prices change with each plan. Adjusted fares count in whole numbers, rounded down, and
+at least as 1.
 
-THE SEARCH. --search plays seasons as `nrm-tools simulate` draws them, under `davn`. First the thresholds of the file,
-those from the fares, and both from adjusted fares, each with 2 to GROUPS groups, are tried on all legs in the same
---seasons (400). From the rule that earns most it goes on leg by leg, and gives each the thresholds of the rule that
-earns most there, until --sweeps (3) are done or one changes nothing. What was found is judged in other seasons, --check
-(1000), beside each rule with GROUPS groups, and the file. --tries keeps what was tried in FILE, so that a run that was
-cut goes on if the same line is run again. It needs Dask, as `nrm-tools simulate --help` says.
+THE SEARCH. --search plays seasons as `nrm-tools simulate` draws them, under `davn`. First it tries rules on all legs in
+the same --seasons (400): the thresholds of the file, those from the fares, and both kinds from adjusted fares, each
+with 2 to GROUPS groups. It starts from the rule that earns most, goes from leg to leg, and gives each leg the
+thresholds of the rule that earns most there, until --sweeps (3) are done or one changes nothing. The result is judged
+in other seasons, --check (1000), beside each rule with GROUPS groups, and the file. --tries keeps what was tried in
+FILE, so that a run that was interrupted continues if you run the same command again. It needs Dask, as `nrm-tools
+simulate --help` says.
 
-With --out the network is written to FILE, with the cuts as the thresholds of the legs and all other rows as they stand.
-A leg that no product uses keeps its thresholds. `nrm run davn FILE` then controls by them, and `nrm-tools replay FILE`
-says what they would have earned.
+With --out the network is written to FILE, with the cuts as the thresholds of the legs and all other rows as they are. A
+leg that no product uses keeps its thresholds. `nrm run davn FILE` then uses them, and `nrm-tools replay FILE` says what
+they would have earned.
 
 With --pictures the fares of each leg are drawn with their cuts and centres, as thresholds.png and thresholds.svg in
-FOLDER. That needs matplotlib (Debian's python3-matplotlib): without it the fares are told in a table.
+FOLDER. This needs matplotlib (Debian's python3-matplotlib): without it the fares are printed in a table.
 """
 from __future__ import annotations
 
@@ -75,7 +76,7 @@ def run(given: Sequence[str]) -> int:
     if asked.pictures is not None:
         see_libraries("thresholds", given, "matplotlib")
     if asked.search and (asked.adjusted or asked.pictures is not None):
-        words.error("--search tries all rules and draws nothing: without --adjusted and --pictures")
+        words.error("--search can't be used with --adjusted or --pictures: it tries all rules and draws nothing")
     if asked.search:
         see_dask("thresholds", given)
     network = Network.read(asked.network)

@@ -1,4 +1,4 @@
-"""Why a line of a journal or a stream was answered as it was: its account, checked, in plain words and step by step.
+"""Explains why a line of a journal or a stream was answered as it was: its account, checked, in plain words and steps.
 
     nrm-tools why JOURNAL NETWORK NUMBER [OPTION...]
     nrm-tools why JOURNAL NETWORK --booking N [OPTION...]
@@ -7,28 +7,28 @@
 The options are --customer, --html FILE, --why WORD... and --program WORD...
 
 With three words the line is that of NUMBER of the network NETWORK in JOURNAL, which `nrm-tools serve` keeps; with
---booking N it is the line that sold the booking N. The network file, the mode and the lines are taken from the journal,
-which is only read, also while a server is at work; it is told which desk asked and when, by the machine's clock, and
-what was answered then. With four words the line is that of NUMBER in the file STREAM, a session on the network file
-NETWORK in MODE.
+--booking N it is the line that sold booking N. The network file, the mode and the lines come from the journal, which is
+only read, also while a server runs. The output says which desk sent the line and when, by the machine's clock, and what
+was answered then. With four words the line is that of NUMBER in the file STREAM, a session on the network file NETWORK
+in MODE.
 
-`nrm_why` writes the account of the line. It is read here, and its rule is done again by code of its own: a leg covers a
-request if what is needed and what is protected are at most what is left, the first leg that is short is named, a fare
-is refused below the sum of the bid prices, an amount is its percentage of the worth, and the seats that are protected
-are enough while one less isn't. The seats sold are added up from the replies of `nrm run` to the lines before. The
-account's answer must be that of `nrm run`, that which is worked out here without the account, and that which the
-journal has; and of the lines before the journal must have the replies of `nrm run`. The plan in force is asked for by
-the line `plan`, and its certificate must be optimal by `nrm check` and by the auditor's script.
+`nrm_why` writes the account of the line. This command reads it, and applies the rule again by code of its own: a leg
+covers a request if what is needed and what is protected are at most what is left, the first leg that is short is named,
+a fare is refused below the sum of the bid prices, an amount is its percentage of the worth, and the protected seats are
+enough while one less isn't. It adds up the seats sold from the replies of `nrm run` to the lines before. The account's
+answer must be that of `nrm run`, the one computed here without the account, and the one in the journal; and the journal
+must have the replies of `nrm run` to the lines before. The plan in force comes from the line `plan`, and its
+certificate must be optimal by `nrm check` and by the auditor's script.
 
-One page is printed: a sentence in plain words, the account, how to do each step again by hand, and what must be
-believed. With --customer the sentence alone is printed; with --html the page is written to FILE too, which needs jinja2
-(Debian's python3-jinja2). Of a cancellation it is told by which line the booking was sold. If a step fails the page
-begins with what is wrong, the status is 1, and --customer prints nothing on standard output. STREAM is a plain file,
-since it is read twice.
+The output is one page: a sentence in plain words, the account, how to do each step again by hand, and what must be
+believed. With --customer only the sentence is printed. With --html the page is also written to FILE, which needs jinja2
+(Debian's python3-jinja2). Of a cancellation the page says which line sold the booking. If a step fails, the page begins
+with what is wrong, the status is 1, and --customer prints nothing on standard output. STREAM must be a plain file,
+because it is read twice.
 
-`nrm_why` is the program of --why, else that of NRM_WHY, else the one of this folder or beside `nrm`; none is built. A
-journal has the checksum of the `nrm_desks` that answers; if another one is beside `nrm_why`, or on the path, that is
-told, and the account is by the rules of the version that is here.
+`nrm_why` is the program of --why, or of NRM_WHY, or the one of this folder or beside `nrm`; none is built. A journal
+has the checksum of the `nrm_desks` that answers. If another one is beside `nrm_why`, or on the path, the page says so,
+and the account follows the rules of the version that is here.
 """
 from __future__ import annotations
 
@@ -40,31 +40,32 @@ from nrm.accounts.account_page import AccountPage, html, text
 from nrm.accounts.checking import LineOfStream, found
 from nrm.accounts.journal_accounts import LineOfJournal
 from nrm.accounts.page_subjects import of_journal, of_stream
-from nrm.commands.running import add_program, at_least, lacking, parser, tell
+from nrm.commands.running import add_program, at_least, lacking, parser, refused_word, tell
 from nrm.limits import LAST_LINE
 from nrm.network import is_whole
 from nrm.program import Program
 from nrm.replies import MODES
 from nrm.writing_files import Output
 
-FORMS = "the words are JOURNAL NETWORK NUMBER, JOURNAL NETWORK with --booking N, or NETWORK MODE STREAM NUMBER"
+FORMS = "this command takes JOURNAL NETWORK NUMBER, JOURNAL NETWORK --booking N, or NETWORK MODE STREAM NUMBER"
 
 
 def line_number(text: str) -> int:
     """The number of a line, as `nrm_why` takes it, or of a booking."""
     if not is_whole(text) or not 1 <= int(text) <= LAST_LINE:
-        raise ValueError
+        raise refused_word(text, f"a whole number from 1 to {LAST_LINE:,}")
     return int(text)
 
 
 def words_of(given: Sequence[str]) -> tuple[argparse.Namespace, LineOfStream | LineOfJournal]:
     """What is asked, and of which line."""
     words = parser("why", __doc__)
-    words.add_argument("words", nargs="*", metavar="WORD", help="where the line stands, as above")
-    words.add_argument("--booking", type=at_least(1, LAST_LINE), metavar="N", help="the line that sold this booking")
-    words.add_argument("--customer", action="store_true", help="the sentence alone")
-    words.add_argument("--html", metavar="FILE", help="where the page is written as HTML")
-    words.add_argument("--why", nargs="+", metavar="WORD", help="what runs `nrm_why`")
+    words.add_argument("words", nargs="*", metavar="WORD", help="the line, as above")
+    words.add_argument("--booking", type=at_least(1, LAST_LINE), metavar="N",
+                       help="explain the line that sold this booking")
+    words.add_argument("--customer", action="store_true", help="print the sentence alone")
+    words.add_argument("--html", metavar="FILE", help="write the page to this file as HTML too")
+    words.add_argument("--why", nargs="+", metavar="WORD", help="the program nrm_why and its first arguments")
     add_program(words)
     asked = words.parse_intermixed_args(given)
     if len(asked.words) != (2 if asked.booking else 3) and (len(asked.words) != 4 or asked.booking):
@@ -74,12 +75,12 @@ def words_of(given: Sequence[str]) -> tuple[argparse.Namespace, LineOfStream | L
     *place, last = asked.words
     try:
         number = line_number(last)
-    except ValueError:
-        words.error(f"{last!r} is no number of a line")
+    except argparse.ArgumentTypeError as why:
+        words.error(f"NUMBER: {why}")
     if len(place) == 2:
         return asked, LineOfJournal(place[0], place[1], number)
     if place[1] not in MODES:
-        words.error(f"{place[1]!r} is no mode, which is the second of four words: {', '.join(MODES)}")
+        words.error(f"MODE: {place[1]!r} isn't one of: {', '.join(MODES)}")
     return asked, LineOfStream(place[0], place[1], place[2], number)
 
 

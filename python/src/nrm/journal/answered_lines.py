@@ -51,8 +51,8 @@ def ended_at(connection: Tables, network: Opened) -> str | None:
 
 def taken_out(network: Opened, number: int) -> Stop:
     """A Stop for a line that must have been there."""
-    return Stop(f"{network.name} has {network.lines} lines, but line {number} isn't among them: somebody has taken it "
-                "out of the journal, and what came behind it can't be played again")
+    return Stop(f"{network.name} has {network.lines} lines, but line {number} isn't among them: somebody has removed "
+                "it from the journal, and the lines after it can't be played again")
 
 
 def sold_by(connection: Tables, network: Opened, booking: int) -> int:

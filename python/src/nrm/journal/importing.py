@@ -45,7 +45,7 @@ class TextJournal:
     def at(cls, path: str) -> TextJournal:
         """The one at a path; a Stop where what stands beside it can't be of it."""
         if os.path.exists(path) and not os.path.isfile(path):
-            raise Stop(f"{path} is no plain file")
+            raise Stop(f"{path} isn't a plain file")
         bytes_in(path, 1)  # a Stop if it isn't there
         count = torn = 0
         with open(path, "rb") as lines:
@@ -64,7 +64,7 @@ class TextJournal:
         """What of it has no row, where so many rows were made of it; nothing if all has."""
         parts = {f"lines of {self.path}.void": len(self.void),
                  "lines that change nothing": self.count - len(self.void) - rows,
-                 "bytes behind the last line feed": self.torn}
+                 "bytes after the last line feed": self.torn}
         return ", ".join(f"{what} {count}" for what, count in parts.items() if count)
 
 
@@ -78,7 +78,7 @@ def void_in(path: str, count: int) -> Iterator[int]:
     for at, text in enumerate(beside.read_bytes().split(b"\n")[:-1], 1):
         number = int(text) if LINE_NUMBER.fullmatch(text) else 0
         if not last < number <= count:
-            raise Stop(f"{beside}: line {at} isn't the number of a next one of the {count} lines of {path}: is it "
+            raise Stop(f"{beside}: line {at} isn't the number of a further one of the {count} lines of {path}: is it "
                        "another journal's?")
         yield (last := number)
 

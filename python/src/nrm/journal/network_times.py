@@ -33,17 +33,17 @@ def moment_of(text: str) -> int:
     """The milliseconds since 1970 began of a time with its offset; a Stop for another text."""
     found = WRITTEN.fullmatch(text)
     if not found:
-        raise Stop(f"{text!r} is no time such as {EXAMPLE}", 2)
+        raise Stop(f"{text!r} isn't a time such as {EXAMPLE}", 2)
     minute, second, offset = found.groups()
     if not offset:
-        raise Stop(f"{text!r} has no offset from UTC, as have {EXAMPLE}", 2)
+        raise Stop(f"{text!r} has no offset from UTC, such as those of {EXAMPLE}", 2)
     try:
         read = datetime.datetime.fromisoformat(minute + (second or ":00") + offset.replace("Z", "+00:00"))
     except ValueError as why:
-        raise Stop(f"{text!r} is no time: {why}", 2)
+        raise Stop(f"{text!r} isn't a time: {why}", 2)
     moment = (read - START) // MILLISECOND
     if not 0 <= moment < MOST:
-        raise Stop(f"{text!r} is no time of the years 1970 to 9999", 2)
+        raise Stop(f"{text!r} isn't a time of the years 1970 to 9999", 2)
     return moment
 
 
@@ -58,12 +58,12 @@ def times_in(departure: str, begins: Sequence[str]) -> Times:
     for word in begins:
         parts = BEGINS.fullmatch(word)
         if not parts:
-            raise Stop(f"{word!r} is no period and its time, such as 2={EXAMPLE.partition(',')[0]}", 2)
+            raise Stop(f"{word!r} isn't a period and its time, such as 2={EXAMPLE.partition(',')[0]}", 2)
         period = int(parts[1])
         if period == 1:
-            raise Stop("period 1 begins when the network is opened, and no time is said for it", 2)
+            raise Stop("period 1 begins when the network is opened, and can't be given a time", 2)
         if period in found:
-            raise Stop(f"the time of period {period} is said twice", 2)
+            raise Stop(f"the time of period {period} is given twice", 2)
         found[period] = moment_of(parts[2])
     times = Times(departs, tuple(sorted(found.items())))
     see_that_they_rise(times)
@@ -75,11 +75,11 @@ def see_that_they_rise(times: Times) -> None:
     for (period, begins), (later, then) in zip(times.begins, times.begins[1:]):
         if then <= begins:
             raise Stop(f"period {later} begins at {text_of(then)}, and period {period} before it at {text_of(begins)}: "
-                       "times rise with the periods", 2)
+                       "times must rise with the periods", 2)
     for period, begins in times.begins[-1:]:
         if begins >= times.departs:
             raise Stop(f"period {period} begins at {text_of(begins)}, and the departure is at "
-                       f"{text_of(times.departs)}: each period begins before it", 2)
+                       f"{text_of(times.departs)}: each period must begin before it", 2)
 
 
 def see_that_it_has(file: bytes, times: Times) -> None:

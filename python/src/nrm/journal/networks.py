@@ -38,7 +38,7 @@ def known(connection: Tables, name: str) -> Opened:
     if not found:
         names = [it.name for it in networks_in(connection)]
         rest = len(names) - MOST_NAMED
-        more = f" and {rest} more, which `nrm-tools journal look` tells" if rest > 0 else ""
+        more = f" and {rest} more, which `nrm-tools journal look` lists" if rest > 0 else ""
         raise Stop(f"the journal has no network {name}; it has {', '.join(names[:MOST_NAMED]) or 'none'}{more}")
     return found
 
@@ -58,8 +58,8 @@ def file_of(connection: Tables, network: int) -> bytes:
 def see_that_it_is_free(connection: Tables, name: str) -> None:
     """A Stop for what is no name of a network, or is that of one which the journal has."""
     if not NAME.fullmatch(name):
-        raise Stop(f"{name!r} is no name of a network: a small letter, and then at most 39 of `a` to `z`, `0` to `9`, "
-                   "`.`, `_` and `-`")
+        raise Stop(f"{name!r} isn't a name of a network, which is a small letter and then at most 39 of `a` to `z`, "
+                   "`0` to `9`, `.`, `_` and `-`")
     if network_in(connection, name):
         raise Stop(f"the journal has a network {name} already")
 
@@ -109,7 +109,7 @@ def going_on(connection: Tables, name: str) -> Opened:
     """The network of a name; a Stop if it has ended, since that is for good."""
     found = known(connection, name)
     if found.is_ended:
-        raise Stop(f"{name} has ended, and is only looked at")
+        raise Stop(f"{name} has ended, and can only be read")
     return found
 
 

@@ -38,7 +38,7 @@ def address_of(uri: str) -> Address:
     try:
         words = {name: str(value) for name, value in conninfo_to_dict(uri).items() if value is not None}
     except psycopg.Error:
-        raise Stop("JOURNAL is no URI such as postgresql://HOST:PORT/DATABASE") from None
+        raise Stop("JOURNAL isn't a URI such as postgresql://HOST:PORT/DATABASE") from None
     hosts, ports = (words.pop(it, "").split(",") for it in ("host", "port"))
     if len(ports) == 1:
         ports *= len(hosts)

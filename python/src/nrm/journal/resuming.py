@@ -40,7 +40,7 @@ class CutSession:
         os.stat(self.network)
         for path in (self.stream, self.replies):
             if stat.S_ISFIFO(os.stat(path).st_mode):
-                raise Stop(f"{path} is no plain file")
+                raise Stop(f"{path} isn't a plain file")
             bytes_in(path, 1)
 
     def replies_kept(self) -> Iterator[bytes]:

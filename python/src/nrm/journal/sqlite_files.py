@@ -22,8 +22,8 @@ def see_that_it_has_one_name(path: str) -> None:
     with contextlib.suppress(OSError):  # one that isn't there has none
         names = os.stat(path).st_nlink
         if names > 1:
-            raise Stop(f"{path} is a file of {names} names (hard links), and a journal must have one: take the others "
-                       "away")
+            raise Stop(f"{path} has {names} names (hard links), and a journal must have only one: remove the "
+                       "others")
 
 
 class Files:
@@ -70,4 +70,4 @@ def looked_at(path: str) -> os.stat_result:
     try:
         return os.stat(path)
     except OSError as fault:
-        raise Gone(f"{path}: {fault.strerror}: it was renamed or taken away")
+        raise Gone(f"{path}: {fault.strerror}: it was renamed or removed")

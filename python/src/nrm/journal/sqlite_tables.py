@@ -151,7 +151,7 @@ class Connection(sqlite3.Connection):
 def connected(path: str, is_to_write: bool = False) -> Connection:
     """A connection to the file at a path, which is there, whatever is in it."""
     if os.path.exists(path) and not os.path.isfile(path):  # a FIFO would wait
-        raise Stop(f"{path} is no plain file")
+        raise Stop(f"{path} isn't a plain file")
     try:
         made = Connection(f"{Path(path).absolute().as_uri()}?mode={'rw' if is_to_write else 'ro'}", uri=True,
                           timeout=PATIENCE, isolation_level=None, check_same_thread=False)
@@ -172,7 +172,7 @@ def opened(path: str, is_to_write: bool = False) -> Connection:
         [application] = made.execute("PRAGMA application_id").fetchone()
         [version] = made.execute("PRAGMA user_version").fetchone()
         if application != APPLICATION:
-            raise NoJournal(f"{path} is no journal: `nrm-tools journal begin` makes one")
+            raise NoJournal(f"{path} isn't a journal: `nrm-tools journal begin` makes one")
         if version != VERSION:
             raise Stop(f"{path} has tables of version {version}, and this is for version {VERSION}")
         made.execute("PRAGMA synchronous = FULL")
@@ -181,7 +181,7 @@ def opened(path: str, is_to_write: bool = False) -> Connection:
         raise Stop(f"{path}: {fault}")
     except sqlite3.DatabaseError as fault:
         made.close()
-        raise NoJournal(f"{path} is no journal: {fault}")
+        raise NoJournal(f"{path} isn't a journal: {fault}")
     except Stop:
         made.close()
         raise

@@ -281,8 +281,8 @@ class Replaced(Stop):
 
     def __init__(self, name: str, address: str) -> None:
         there = f", at {address}" if address else ""
-        super().__init__(f"another start of a server has the name {name} now{there}: to begin this one again, give it "
-                         "a name of its own, or end the other", REPLACED)
+        super().__init__(f"another server was started with the name {name}{there}: to start this one again, give it a "
+                         "name of its own, or stop the other", REPLACED)
 
 
 class Members(Protocol):

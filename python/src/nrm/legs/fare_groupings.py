@@ -63,7 +63,7 @@ def verdict(path: str, found: Sequence[Grouping], rule: str) -> str:
     each = "" if len(found) == 1 else f", {' to '.join(map(str, sorted({min(buckets), max(buckets)})))} on each"
     made = f"{rule} make {counted(sum(buckets), 'bucket')}"
     return (f"On {counted(len(found), 'leg')} of {said(path)} the thresholds {made}"
-            f"{each}; what they earn wasn't measured.")
+            f"{each}; what they earn isn't measured here.")
 
 
 def counted(number: int, name: str) -> str:

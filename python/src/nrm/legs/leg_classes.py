@@ -66,7 +66,7 @@ class LegAlone:
         on_leg = network.products_on(leg)
         alone = {it.name for it in on_leg if it.legs == (leg,)}
         if not 1 <= len(alone) <= MOST_CLASSES:
-            raise Stop(f"the products whose only leg is {leg} are {len(alone)}, and it takes 1 to {MOST_CLASSES}")
+            raise Stop(f"the products whose only leg is {leg} are {len(alone)}, and this takes 1 to {MOST_CLASSES}")
         self.name, self.program, self.others = leg, program, len(on_leg) - len(alone)
         self.rows = [row for row in rows if row[0] == "periods" or row[:2] == ["leg", leg]
                      or row[0] in ("product", "demand") and row[1] in alone]
@@ -136,9 +136,9 @@ def remarks(leg: LegAlone, emsr: Policy) -> list[str]:
     """What is to be known beside the tables."""
     found = []
     if leg.others:
-        found.append(f"products that use {leg.name} and other legs, which have no part in this: {leg.others}")
+        found.append(f"products that use {leg.name} and other legs, which aren't counted here: {leg.others}")
     lowest = leg.classes[-1].fare
     if emsr.protected[-1] and not any(any(it.demand) for it in leg.classes if it.fare == lowest):
         found.append(f"nobody asked at {lowest}, the lowest fare: so `nrm` takes the last bucket's fare as 0, and "
-                     "EMSR-b protects the more from it")
+                     "EMSR-b protects more from it")
     return found

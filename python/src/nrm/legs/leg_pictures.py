@@ -27,7 +27,7 @@ def thresholds(groupings: Sequence[Grouping], texts: Mapping[str, str]) -> Figur
         axis.set_title(title)
     label(figure, "fare, currency units", "seats asked for, in all histories",
           [Line2D([], [], color=BLUE, marker="o", markersize=3, linewidth=2, label="a fare"),
-           Line2D([], [], **CUT, label="cut: above it is another group than below"),
+           Line2D([], [], **CUT, label="cut between two groups"),
            Line2D([], [], **CENTRE, label="centre of a group"), Patch(facecolor=SHADE, label="every other group")])
     return figure
 

@@ -24,7 +24,7 @@ def today() -> str:
     try:
         return datetime.datetime.fromtimestamp(int(seconds), datetime.timezone.utc).date().isoformat()
     except (ValueError, OverflowError, OSError):
-        raise Stop(f"SOURCE_DATE_EPOCH is {seconds[:40]}, which is no day")
+        raise Stop(f"SOURCE_DATE_EPOCH is {seconds[:40]}, which isn't a time in seconds")
 
 
 def checked(text: str, checksum: str) -> str:

@@ -36,14 +36,14 @@ class Amounts:
             if len(there) > 1:
                 (line, one), (other_line, other) = list(there.values())[:2]
                 raise Stop(f"the column {column} has two {which}: line {line} has {one!r} and line {other_line} "
-                           f"{other!r}; take the rows of one of them")
+                           f"{other!r}; select the rows of one of them")
         self.mark = next(iter(marks), None)
 
     def amount(self, text: str) -> Decimal:
         """The amount that a text says; a ValueError says what is wrong with it."""
         found = AMOUNT.fullmatch(parts_of(text)[0])
         if not found:
-            raise ValueError(f"{cut_short(text)!r} is no amount" if text else "it has no amount")
+            raise ValueError(f"{cut_short(text)!r} isn't an amount" if text else "it has no amount")
         sign, whole, thousands, mark, decimals = found.groups()
         if thousands and thousands in (mark, self.mark):
             raise ValueError(f"in {cut_short(text)!r} {thousands} is a mark for thousands, and elsewhere for decimals")

@@ -18,7 +18,7 @@ MOST_DIGITS = len(str(GREATEST_NUMBER))
 def faults_of_certificate(data: bytes, network: Network) -> Iterator[tuple[str, str]]:
     """What the program says of each fault of a certificate file's bytes, and how to mend it."""
     if len(data) > MOST_CERTIFICATE_BYTES:
-        yield "refused certificate long", f"it has more than {MOST_CERTIFICATE_BYTES} bytes; is it another file?"
+        yield "refused certificate long", f"it has more than {MOST_CERTIFICATE_BYTES} bytes; is it another kind of file?"
         return
     wanted = ["value", *[f"product {it}" for it in network.products], *[f"leg {it}" for it in network.legs]]
     given: dict[str, Fraction | None] = {}
@@ -34,7 +34,7 @@ def faults_of_certificate(data: bytes, network: Network) -> Iterator[tuple[str, 
                 return  # what is wrong with the file as a whole is told once
             tried.add(line_meant(text, wanted)[0])
         elif any(len(it) > MOST_DIGITS or int(it) > GREATEST_NUMBER for it in found.groups()):
-            advice = f"no number is above {GREATEST_NUMBER}"
+            advice = f"no number may be above {GREATEST_NUMBER}"
             yield f"refused certificate line {number} large", f"line {number}: {shown(text)}: {advice}"
             given[what] = None
         else:
@@ -61,7 +61,7 @@ def how_to_mend_a_line(text: str, wanted: Sequence[str], given: Collection[str])
     if is_no_text(text):
         return NO_TEXT
     if not text.strip() or text.startswith("#"):
-        return "a certificate has no blank lines and no remarks: delete the line"
+        return "a certificate can't have blank lines or comments: delete the line"
     if text.startswith(("nest ", "protect ")):
         return "it is of a plan under davn: `grep -v -e ^nest -e ^protect FILE > NEW` leaves the certificate"
     what, rest = line_meant(text, wanted)
@@ -69,13 +69,13 @@ def how_to_mend_a_line(text: str, wanted: Sequence[str], given: Collection[str])
         words = text.rpartition(" ")[0]
         close = difflib.get_close_matches(words, wanted, 1) if words.startswith(("value", "product", "leg")) else []
         guess = f"; is it `{close[0]}`?" if close else ""
-        return f"it is none of `value`, `product NAME` and `leg NAME`, one blank and a fraction{guess}"
+        return f"it must be `value`, `product NAME` or `leg NAME`, one blank and a fraction{guess}"
     if what in given:
         return "it was given above: delete one of the two"
     mark = ", without the byte order mark before it" if text.startswith("\ufeff") else ""
     if found := re.fullmatch(r"0*(\d+)(?:/0*([1-9]\d*))?", rest):
         return f"write `{what} {found[1]}/{found[2] or 1}`{mark}"
-    return f"write `{what}` and a fraction{mark}, as 3/2: a decimal is to be the fraction that it stands for"
+    return f"write `{what}` and a fraction{mark}, such as 3/2: a decimal must be written as the fraction that it stands for"
 
 
 def is_too_fine(given: Mapping[str, Fraction], network: Network) -> bool:

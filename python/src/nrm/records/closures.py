@@ -45,7 +45,7 @@ def passed_of_day(text: str) -> float:
     if half:
         hour = hour % 12 + (12 if half == "P" else 0) if 1 <= hour <= 12 else 24
     if hour > 23 or minute > 59:
-        raise ValueError(f"{cut_short(text)!r} has no time of a day")
+        raise ValueError(f"{cut_short(text)!r} has no time of day")
     return (hour + minute / 60) / 24
 
 
@@ -93,7 +93,7 @@ def reading_of(dates: Dates, departing: str, product: str, read: str, available:
         raise ValueError(f"it was read on {read}, after its departure on {departing}")
     is_number = SEATS.fullmatch(available) is not None
     if not is_number and available.lower() not in OPEN + CLOSED:
-        raise ValueError(f"{cut_short(available)!r} is no number of seats, and neither open nor closed")
+        raise ValueError(f"{cut_short(available)!r} is neither a number of seats nor open or closed")
     return AvailabilityReading(departs, product, at, int(available) > 0 if is_number else available.lower() in OPEN)
 
 

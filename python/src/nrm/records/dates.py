@@ -107,7 +107,7 @@ def order_shown_by(twofold: Sequence[re.Match[str]]) -> str:
         return "dmy" if day_first else "mdy"
     why = (f"{day_first} has the day first, and {month_first} the month" if day_first
            else f"{twofold[0][0]} can be read with the day or the month first")
-    raise Stop(f"of the dates, {why}; say --dates dmy or --dates mdy, or write them as 2025-03-07")
+    raise Stop(f"of the dates, {why}; use --dates dmy or --dates mdy, or write them like 2025-03-07")
 
 
 def spans_of(days: Iterable[datetime.date]) -> list[str]:

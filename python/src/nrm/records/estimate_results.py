@@ -134,10 +134,10 @@ class DemandEstimate:
         taken = sum(rates.rate[j][t] for t in periods)
         told = f"{rates.sale.products[j]} was never open in period {spans_of(periods)}: its demand there isn't known"
         if j in rates.known.before:
-            return f"{told}, and taken from {self.earlier}: {taken:.2f} seats a departure"
+            return f"{told}, and is taken from {self.earlier}: {taken:.2f} seats a departure"
         if taken:
             whose = "the mean rate of its class" if len(periods) == len(rates.periods) else "its own rate elsewhere"
-            return f"{told}, and taken from {whose} by the course of its class: {taken:.2f} seats a departure"
+            return f"{told}, and is taken from {whose} by the course of its class: {taken:.2f} seats a departure"
         row = "it has no row" if len(periods) == len(rates.periods) else "its rows have 0 there"
         return (f"{told}, and {row}, as if nobody had asked; --before NETWORK takes what was asked for earlier, and "
                 "--like-class the mean of the products of its class")

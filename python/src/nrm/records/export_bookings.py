@@ -116,8 +116,8 @@ class ExportReading:
             texts[self.cancels(it)][self.field(it, column) or "nothing"] += 1
         yes, no = (counted(texts[it]) for it in (True, False))
         if not yes:
-            raise Stop(f"no row is a cancellation by the column {column}, where there stands {no}; say which texts "
-                       f"mean one: --cancels {column} TEXT..")
+            raise Stop(f"no row is a cancellation by the column {column}, which has {no}; name the texts that mean "
+                       f"one, --cancels {column} TEXT..")
         return f"rows that cancel by the column {column}: {yes}; that don't: {no or 'none'}"
 
     def field(self, row: LogRow, column: str | None) -> str:
@@ -163,7 +163,7 @@ class ExportReading:
         amounts = self.read.seats_of(row.fields), self.field(row, self.columns.fare)
         is_below_0 = any(it.startswith("-") for it in amounts)
         if is_below_0 and not self.columns.number:
-            raise ValueError("it cancels a booking of another row: say --id, the column of the booking's number")
+            raise ValueError("it cancels a booking of another row: use --id with the column of the booking's number")
         days = None if day is None else (request.departs - day).days
         return Cancellation(row.line, request.seats, days, is_below_0, text)
 
@@ -172,7 +172,7 @@ class ExportReading:
         texts = [self.field(row, it) for it in self.columns.stops]
         stops = tuple(it.strip() for it in (texts[0].split(self.separator) if self.separator else texts))
         if stops and (len(stops) < 2 or not all(stops)):
-            raise ValueError(f"{cut_short(' '.join(texts))!r} is no journey from one stop to another")
+            raise ValueError(f"{cut_short(' '.join(texts))!r} isn't a journey from one stop to another")
         if len(set(stops)) < len(stops):
             raise ValueError(f"it has the stop {max(stops, key=stops.count)} twice")
         return stops
@@ -229,7 +229,7 @@ def each_once(rows: Sequence[LogRow], tell: Callable[[str], None]) -> list[LogRo
             once.append(it)
         seen.add(said)
     if twice:
-        tell(f"rows that are there twice {len(twice)}, which count once: {lines_told(twice)}")
+        tell(f"rows that occur twice, which count once: {len(twice)}, {lines_told(twice)}")
     return once
 
 
@@ -255,8 +255,8 @@ class Pairing:
                               max(most, 1, len(self.bookings) // MOST_ALONE))
         late = [it.line for it in self.bookings if it.request.days < 0]
         if late:
-            raise Stop(f"bookings that are cancelled were made after their departure, in {lines_told(late)}: mend "
-                       "them, or take them out")
+            raise Stop(f"bookings that are cancelled were made after their departure, in {lines_told(late)}: fix "
+                       "or remove them")
 
     def paired_rows(self, rows: Sequence[Booking], numbers: Mapping[str, Sequence[Booking]]) -> list[Booking]:
         """The bookings, with the cancellations in other rows of their number."""
@@ -280,11 +280,11 @@ class Pairing:
     def told(self) -> Iterator[str]:
         """What was paired and what counts once, in sentences."""
         if self.differing:
-            yield (f"rows with the number of another booking {len(self.differing)}, which differ from it and count: "
+            yield (f"rows with the number of another booking, which differ from it and count: {len(self.differing)}, "
                    f"{lines_told(self.differing)}")
         if self.alone:
-            yield (f"cancellations without a booking of their number, departure, product and as many seats "
-                   f"{len(self.alone)}, which don't count: {lines_told(self.alone)}")
+            yield ("cancellations without a booking of their number, departure, product and as many seats, which "
+                   f"don't count: {len(self.alone)}, {lines_told(self.alone)}")
         cancelled = sum(bool(it.cancelled) for it in self.bookings)
         if cancelled:
             how = f"in rows of their own, of which {self.paired} were paired" if self.are_rows else "by their own row"
@@ -334,11 +334,11 @@ def see_what_is_alone(alone: Sequence[Booking], rows: Sequence[Booking], most: i
     texts = {it.cancelled[0].text for it in rows if it.is_refund}
     others = {it.cancelled[0].text for it in above}
     which = " or ".join(sorted(texts)) if not texts & others else "a text that they alone have in some column"
-    raise Stop(f"{len(above)} rows cancel something and have no amount below 0, and no booking and no refund of their "
-               f"number: {lines_told([it.line for it in above])}. Others have seats or amounts below 0. If the "
-               f"{len(above)} are bookings that are cancelled by their own row, leave the refunds out, --without "
-               f"COLUMN TEXT, by {which}; if they cancel bookings that the export hasn't, leave them out, --leave-out "
-               f"{len(above)}")
+    raise Stop(f"{len(above)} rows cancel something, and have neither an amount below 0 nor a booking or refund of "
+               f"their number: {lines_told([it.line for it in above])}. Others have seats or amounts below 0. If the "
+               f"{len(above)} are bookings that are cancelled by their own row, leave out the refunds with --without "
+               f"COLUMN TEXT, by {which}; if they cancel bookings that the export doesn't have, leave them out with "
+               f"--leave-out {len(above)}")
 
 
 def is_of(cancellation: Booking, booking: Booking) -> bool:

@@ -122,9 +122,9 @@ def fares_of(bookings: Iterable[Booking], in_cents: bool, tell: Callable[[str], 
         fares[product] = int((mean * (CENTS if in_cents else 1)).to_integral_value(ROUND_HALF_UP))
         if not 1 <= fares[product] <= MOST_FARE:
             raise Stop(f"the mean fare of {product!r} is {mean:.2f}, and a network file takes 1 to {MOST_FARE}"
-                       f"{'' if in_cents else '; with --cents it is in cents'}")
+                       f"{'' if in_cents else '; with --cents fares are in cents'}")
     if fallen := [product for product, it in sums.items() if not it.seats]:
-        tell(f"products of which no booking stands {len(fallen)}, whose fares are those of what was cancelled: "
+        tell(f"products of which no booking stands, whose fares are those of cancelled bookings: {len(fallen)}, "
              f"{some_of(fallen)}")
     return fares
 
@@ -150,7 +150,7 @@ def seats_in(path: str) -> dict[str, tuple[int, int]]:
         if at == 0 and not any(map(is_whole, numbers)) or not any([what, *numbers]):
             continue
         if len(numbers) != 1 or not is_whole(numbers[0]) or int(numbers[0]) > MOST_SEATS or what in found:
-            raise Stop(f"{said(path)}: line {reader.line_num} is to have a train or a leg of its own and its seats, "
+            raise Stop(f"{said(path)}: line {reader.line_num} must have a train or a leg of its own and its seats, "
                        f"0 to {MOST_SEATS}")
         found[what] = int(numbers[0]), reader.line_num
     return found
@@ -168,8 +168,8 @@ def seats_of(path: str, offer: Offer, names: Mapping[str, str], tell: Callable[[
             seats[text] = there[key][0]
             used.add(key)
     if missing:
-        raise Stop(f"{said(path)} has no seats for {some_of(missing)}: add a row for each, its train or leg and the "
-                   "number")
+        raise Stop(f"{said(path)} has no seats for {some_of(missing)}: add a row for each, with its train or leg and "
+                   "the number")
     if idle := [f"{it!r} in line {line}" for it, (_, line) in there.items() if it not in used]:
-        tell(f"no leg of the export is {some_of(idle)} of {said(path)}")
+        tell(f"the export has no leg {some_of(idle)} of {said(path)}")
     return seats

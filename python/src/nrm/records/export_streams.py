@@ -64,7 +64,7 @@ class DepartureStream:
     def request(self, booking: Booking, day: int, place: int, seats: int, names: Mapping[str, str]) -> Event:
         """The request of a party."""
         if seats > MOST_PARTY:
-            raise Stop(f"line {booking.line} is of {seats} seats, and a request is of at most {MOST_PARTY}")
+            raise Stop(f"line {booking.line} has {seats} seats, and a request can have at most {MOST_PARTY}")
         self.parties += 1
         return Event(day, place, False, self.parties, f"book {names[booking.request.product]} {seats}")
 
@@ -88,12 +88,12 @@ class DepartureStream:
         cancellations = sum(it.is_cancellation for it in self.events)
         yield f"stream of {self.departs}: requests {self.parties}, cancellations {cancellations}"
         if self.undated:
-            yield f"cancellations of a day that the export doesn't say {self.undated}: they stand at the end"
+            yield f"cancellations whose day the export doesn't have: {self.undated}; they come at the end"
         if self.after:
-            yield f"cancellations after the departure {self.after}: they aren't in the stream"
+            yield f"cancellations after the departure: {self.after}; they aren't in the stream"
         if cancellations:
-            yield ("a line `cancel N` has the number of the booking where each request is sold: under a control that "
-                   "refuses one, it is the number of a later booking")
+            yield ("a line `cancel N` has the number that the booking has if each request is sold: under a control "
+                   "that refuses one, it is the number of a later booking")
 
 
 def is_newest_first(bookings: Sequence[Booking]) -> bool:

@@ -108,15 +108,16 @@ def no_order(train: str, heads: Sequence[str], before: Mapping[str, Mapping[str,
     """A Stop for stops whose order isn't shown, since none of two is before the other, or since each of some is."""
     of_train = f" of {train}" if train else ""
     if heads:
-        return Stop(f"no journey{of_train} shows which of {' and '.join(heads[:2])} comes first: say the stops in "
-                    "their order, --line STOP STOP.., or, where each journey's are in one column, --stops COLUMN")
+        return Stop(f"no journey{of_train} shows which of {' and '.join(heads[:2])} comes first: give the stops in "
+                    "their order with --line STOP STOP.., or with --stops COLUMN if one column has those of each "
+                    "journey")
     ring = [min(before)]
     while ring[-1] not in ring[:-1]:
         ring.append(min(before[ring[-1]]))
     ring = ring[ring.index(ring[-1]):][::-1]
     shown = [f"{where(before[last][first])} from {first} to {last}" for first, last in zip(ring, ring[1:])]
-    return Stop(f"the journeys{of_train} go round: {', '.join(shown)}; so they are of several trains: say which column "
-                "names the train, --train COLUMN, or take the rows of one direction, --only COLUMN TEXT")
+    return Stop(f"the journeys{of_train} go in a circle: {', '.join(shown)}; so they are of several trains: name the "
+                "column of the train with --train COLUMN, or select the rows of one direction with --only COLUMN TEXT")
 
 
 def where(line: int) -> str:

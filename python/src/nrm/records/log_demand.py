@@ -19,12 +19,12 @@ class Demand:
                  last: int | None = None) -> None:
         departures = sorted({it.departs for it in requests if weekday in (None, WEEKDAYS[it.departs.weekday()])})
         if not departures:
-            raise Stop(f"no departure of the log is on a {weekday}")
+            raise Stop(f"the log has no departure on a {weekday}")
         self.departures = departures[-last:] if last else departures
         self.periods = len(cuts) + 1
         if len(self.departures) > MOST_HISTORIES:
             raise Stop(f"the log has {len(departures)} days of departure, and a network file takes {MOST_HISTORIES} "
-                       f"histories: say --last {MOST_HISTORIES} for the latest of them, "
+                       f"histories: use --last {MOST_HISTORIES} for the latest of them, "
                        "or --weekday fri for one day of the week")
         history = {it: number for number, it in enumerate(self.departures, 1)}
         self.seats: Counter[tuple[str, int, int]] = Counter()
@@ -59,10 +59,10 @@ def cuts_of(text: str) -> list[int]:
     try:
         cuts = [number(it) for it in text.split(",")]
     except ValueError:
-        raise Stop(f"--cuts {text}: days before departure are wanted, as 60,30,7")
+        raise Stop(f"--cuts {text}: these must be days before departure, such as 60,30,7")
     if cuts != sorted(set(cuts), reverse=True) or cuts[-1] < 0:
-        raise Stop(f"--cuts {text}: each is to be fewer days before departure than the one before it, "
-                   "and none below 0, as 60,30,7")
+        raise Stop(f"--cuts {text}: each must be fewer days before departure than the one before it, "
+                   "and none below 0, such as 60,30,7")
     if len(cuts) + 1 > MOST_PERIODS:
         raise Stop(f"--cuts {text}: these are {len(cuts) + 1} periods, and a network file takes {MOST_PERIODS}: "
                    "cut fewer times")
@@ -77,11 +77,11 @@ def completed(path: str, demand: Demand, names: Mapping[str, str],
     there = {row[1] for row in rows if row[0] == "product" and row[1:]}
     if not there:
         raise Stop(f"{said(path)} has no row of a product that can be read: "
-                   f"`nrm-tools explain {said(path)}` tells what is wrong with it")
+                   f"`nrm-tools explain {said(path)}` says what is wrong with it")
     missing = [f"{names[it]}, which stands for {it!r}" for it in demand.products if names[it] not in there]
     if missing:
         raise Stop("\n    ".join([f"{said(path)} has no row for these products of the log; "
-                                  "add one for each, or take them out of the log", *missing]))
+                                  "add one for each, or remove them from the log", *missing]))
     if idle := sorted(there - {names[it] for it in demand.products}):
         tell(f"no request of the log is for {', '.join(idle)}")
     version = next((row[3:4] for row in rows if row[0] == "periods"), list[str]())

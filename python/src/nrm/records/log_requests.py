@@ -82,7 +82,7 @@ class Request:
         if not product:
             raise ValueError("it names no product")
         if not (found := SEATS.fullmatch(seats.removeprefix("-") if is_cancelled else seats)):
-            raise ValueError(f"{cut_short(seats)!r} is no number of seats")
+            raise ValueError(f"{cut_short(seats)!r} isn't a number of seats")
         return cls(departs, days, product, int(found[1]), columns.train_of(fields))
 
 
@@ -93,8 +93,8 @@ def day_of(dates: Dates, text: str, which: str) -> datetime.date:
     try:
         return dates.day(text)
     except ValueError:
-        why = "has a year of two digits" if has_short_year(text) else "is no date that is known"
-        raise ValueError(f"{cut_short(text)!r} {why}; write it as 2025-03-07") from None
+        why = "has a year of two digits" if has_short_year(text) else "isn't a date"
+        raise ValueError(f"{cut_short(text)!r} {why}; write it like 2025-03-07") from None
 
 
 def rows_kept(rows: Sequence[LogRow], without: Sequence[Sequence[str]], tell: Callable[[str], None],
@@ -108,7 +108,7 @@ def rows_kept(rows: Sequence[LogRow], without: Sequence[Sequence[str]], tell: Ca
         there = dict.fromkeys(it.fields[place] for it in kept)
         kept, before = [it for it in kept if (it.fields[place].lower() in named) == is_wanted], len(kept)
         found = bool(kept) if is_wanted else len(kept) < before
-        told = "" if found else f"; there stands {', '.join(list(there)[:MOST_TOLD])}"
+        told = "" if found else f"; the column has {', '.join(list(there)[:MOST_TOLD])}"
         which = f"with{'out' if is_wanted else ''} {' or '.join(texts)} in {column}"
         tell(f"rows left out {before - len(kept)}, {which}{told}")
     return kept
@@ -152,7 +152,7 @@ def all_made(log: Log, rows: Sequence[LogRow], make: Callable[[LogRow], Made], m
     told = [why for _, why in sorted(wrong)]
     if len(told) > most:
         more = [f"and {len(told) - MOST_TOLD} more"] if len(told) > MOST_TOLD else []
-        unread = f"{said(log.path)} has rows that can't be read; mend them, or take them out"
+        unread = f"{said(log.path)} has rows that can't be read; fix or remove them"
         raise Stop("\n    ".join([unread, *told[:MOST_TOLD], *more]))
     if not made:
         raise Stop(f"{said(log.path)} has no request below its headings")

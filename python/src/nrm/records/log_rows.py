@@ -24,7 +24,7 @@ def text_in(path: str) -> str:
     data = bytes_in(path)
     if data.startswith(OF_A_SPREADSHEET):
         raise Stop(f"{said(path)} is a spreadsheet's own file: save it as CSV, or "
-                   f"`soffice --headless --convert-to csv {said(path)}`")
+                   f"run `soffice --headless --convert-to csv {said(path)}`")
     if data.startswith((b"\xff\xfe", b"\xfe\xff")):
         return data.decode("utf-16", "replace")
     try:
@@ -124,11 +124,11 @@ class Log:
         """What is wrong with a record that doesn't end as it should, as shows in a line, or by an open quote."""
         if is_open and not self.is_multiline:
             return ("a quote is opened in it and isn't closed in it, which would take the lines below with it: "
-                    "close it or take it out; --multiline takes fields with line feeds")
+                    "close it or remove it; --multiline allows fields with line feeds")
         if is_open:
-            return "a quote is opened in it that is closed nowhere: close it or take it out"
+            return "a quote is opened in it that is closed nowhere: close it or remove it"
         return (f"a quote is opened and closed in it{f', in line {ends},' if ends > begins else ''} and more text "
-                "stands behind it: close it at the end of its field, or write a quote within a field twice")
+                "follows it: close it at the end of its field, or write a quote within a field twice")
 
     def shown(self, line: int, why: str) -> str:
         """A line that can't be read, and what is wrong with it."""
@@ -154,7 +154,7 @@ def what_is_there(text: str, columns: Sequence[str]) -> str:
     headings = min(rows, key=lambda row: len(lacking(columns, row)), default=list[str]())
     lacks = lacking(columns, headings)
     if len(lacks) == len(columns):
-        return f"has no row of headings with {', '.join(columns)}; it begins {text.lstrip()[:100]!r}"
+        return f"has no row of headings with {', '.join(columns)}; it begins with {text.lstrip()[:100]!r}"
     return f"has no column {', '.join(lacks)}; its headings are {', '.join(filter(None, map(str.strip, headings)))}"
 
 

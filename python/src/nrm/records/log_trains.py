@@ -29,7 +29,7 @@ def with_last_names(rows: Sequence[LogRow], at: int | None, same: Sequence[Seque
     if not same:
         return rows
     if at is None:
-        raise Stop("--same wants the column of the train: --train, or the first of several in --product")
+        raise Stop("--same needs the column of the train: --train, or the first of several in --product")
     there = {it.fields[at] for it in rows}
     if missing := [name for names in same for name in names if name not in there]:
         raise Stop(f"--same {shlex.quote(missing[0])}: no row is of that train; there are "
@@ -77,8 +77,8 @@ class Trains:
                 left = {it: some for it, some in left.items() if it not in names}
         if left:
             trains = [f"{it} on {self.spoken(it)}" for it in sorted(left)]
-            yield (f"trains that depart on some of the {len(self.seasons)} days alone {len(left)}, and have no demand "
-                   f"in the other seasons: {some_of(trains, MOST_TOLD)}")
+            yield (f"trains that depart on only some of the {len(self.seasons)} days, and have no demand in the other "
+                   f"seasons: {len(left)}, {some_of(trains, MOST_TOLD)}")
 
     def later(self, train: str, left: Mapping[str, Sequence[datetime.date]]) -> str | None:
         """The train that begins next when one has ended, and sells the same or most of it."""

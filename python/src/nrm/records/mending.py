@@ -15,9 +15,9 @@ SHAPES = {
 OF_VERSION_2 = {**SHAPES, "periods": "periods,HISTORIES,PERIODS,2",
                 "leg": "leg,NAME,SEATS,AUTHORISED and up to 9 thresholds"}
 MOST_TEXT = 60  # that is shown of a field
-NO_TEXT = "it is UTF-16, or no text: save it as UTF-8, or `iconv -f UTF-16 -t UTF-8 FILE > NEW`"
+NO_TEXT = "it is UTF-16, or isn't text: save it as UTF-8, or run `iconv -f UTF-16 -t UTF-8 FILE > NEW`"
 WITHOUT_PADDING = r"sed 's/,*\r*$//' FILE > NEW"
-NOTHING_THERE = f"is wanted; where the row ends in commas, `{WITHOUT_PADDING}` takes them away"
+NOTHING_THERE = f"is missing; if the row ends in commas, `{WITHOUT_PADDING}` removes them"
 
 
 def shown(text: str) -> str:
@@ -56,20 +56,20 @@ def how_to_mend_a_kind(fields: Sequence[str], is_above_all: bool, version: int) 
     if is_no_text(text):
         return NO_TEXT
     if re.match(rf"({'|'.join(SHAPES)}) *[;\t|]", text):
-        return ("the fields are kept apart by another sign: save it with commas, or `tr ';' ',' < FILE > NEW`, "
+        return ("the fields are separated by another character: save it with commas, or run `tr ';' ',' < FILE > NEW`, "
                 r"with '\t' for tabs")
     if "\ufeff" in text:
         return "there is a byte order mark that isn't at the start of the file, or twice: delete it"
     if not any(fields):
-        return f"the row is empty: delete it, or `{WITHOUT_PADDING}`, since a blank line is no row"
+        return f"the row is empty: delete it, or run `{WITHOUT_PADDING}`, since a blank line isn't a row"
     if kind == text.strip().lower():
         return f"write {kind}, in lower case and without blanks"
     if text.startswith("#"):
-        return "a file has no remarks: delete the line"
+        return "a network file can't have comments: delete the line"
     if is_above_all and not kind:
-        return "a file has no heading row: delete it; the first row is " + SHAPES["periods"]
+        return "a network file can't have a row of headings: delete it; the first row is " + SHAPES["periods"]
     kinds = "periods, leg, product, refund and demand" if version == 2 else "periods, leg, product and demand"
-    return f"it is none of {kinds}{f': write {kind}' if kind else ''}"
+    return f"it must be one of {kinds}{f': write {kind}' if kind else ''}"
 
 
 def how_to_mend_a_name(text: str) -> str:
@@ -99,13 +99,13 @@ def how_to_mend_a_number(text: str, kind: str) -> str:
 
 def how_to_mend_a_range(kind: str, at: int, least: int, most: int, version: int) -> str:
     """What is said of a number beyond its limits."""
-    limits = f"it is to be {least} to {most}"
+    limits = f"it must be {least} to {most}"
     if kind == "leg" and at == 2:
         return f"{limits}; more seats are sold as two legs: docs/network-file.md, 'Why the limits'"
     if kind == "leg" and at == 3 and version == 2:
         return f"{limits}; is it a threshold? In version 2 the authorised seats stand before these"
     if kind == "periods" and at == 3:
-        return "it is to be 2, or left out for version 1"
+        return "it must be 2, or be left out for version 1"
     if kind == "periods":
         return f"{limits}: take {'the latest histories' if at == 1 else 'fewer cuts'}"
     return limits

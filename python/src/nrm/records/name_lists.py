@@ -39,14 +39,14 @@ def names_in(path: str | None) -> dict[str, str]:
     try:
         first, *rows = [(reader.line_num, row) for row in reader] or [(1, [])]
     except csv.Error:
-        raise Stop(f"{said(path)} is no list of names: line {reader.line_num} or one above it has a quote that isn't "
+        raise Stop(f"{said(path)} isn't a list of names: line {reader.line_num} or one above it has a quote that isn't "
                    "closed")
     if first[1] != HEADINGS:
-        raise Stop(f"{said(path)} is no list of names: its first row is to be `name,stands for`")
+        raise Stop(f"{said(path)} isn't a list of names: its first row must be `name,stands for`")
     names: dict[str, str] = {}
     for line, (name, *stands_for) in ((line, list(map(as_meant, row))) for line, row in rows if row):
         if len(stands_for) != 1 or not NAME.fullmatch(name) or name in names.values() or stands_for[0] in names:
-            raise Stop(f"{said(path)} is no list of names: line {line} is to have a name of its own, of 1 to "
+            raise Stop(f"{said(path)} isn't a list of names: line {line} must have a name of its own, of 1 to "
                        f"{MOST_NAME_BYTES} of A-Z, 0-9 and -, and one text that it stands for")
         names[stands_for[0]] = name
     return names

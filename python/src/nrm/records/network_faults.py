@@ -145,14 +145,14 @@ class Explanation:
         if kind != "periods" and not self.known_rows and not (periods and periods.number < row.number):
             return Fault(2, 0, self.how_to_begin())
         if kind == "periods" and periods and row is not periods:
-            return Fault(2, 0, f"line {periods.line} is the row of periods, and a file has one: delete this one")
+            return Fault(2, 0, f"line {periods.line} is the row of periods, and a file has only one: delete this one")
         allowed = self.counts_allowed(kind)
         if count not in allowed:
             return Fault(3, None, self.how_to_mend_a_count(row, count, allowed))
         most = {"leg": MOST_LEGS, "product": MOST_PRODUCTS}.get(kind)
         if most and len(self.made[kind]) >= most:
             return Fault(4, None, f"a file takes {most} rows of this kind: `nrm-tools split` cuts a timetable into "
-                                  "files, where it falls apart into legs that no product joins")
+                                  "files, if it falls apart into legs that no product joins")
         return None
 
     def counts_allowed(self, kind: str) -> Collection[int]:
@@ -176,7 +176,7 @@ class Explanation:
         if self.version == 2 or not self.first_periods:
             return self.how_to_begin()
         return ("a file of version 1 has no refunds: make it version 2, with ,2 at the end of line "
-                f"{self.first_periods.line} and behind the seats of each leg its authorised seats; or delete the line")
+                f"{self.first_periods.line} and after the seats of each leg its authorised seats; or delete the line")
 
     def how_to_mend_a_count(self, row: Row, count: int, allowed: Collection[int]) -> str:
         """What is said of a row that has too few fields, or too many."""
@@ -222,7 +222,7 @@ class Explanation:
         if line and kind == "refund":
             yield Fault(8, 1, f"line {line} has the refund of {shown(name)}: delete one of the two")
         elif line:
-            yield Fault(8, 1, f"line {line} has made it: choose another name, or delete one of the two")
+            yield Fault(8, 1, f"line {line} makes the same name: choose another, or delete one of the two")
         if kind == "product":
             for at, leg in enumerate(rest[1:], 3):
                 if leg in row.fields[3:at]:
@@ -257,11 +257,11 @@ class Explanation:
             for at in range(self.first_threshold + 1, len(row.fields)):
                 if int(row.fields[at]) >= int(before := row.fields[at - 1]):
                     hint = self.hint_of_authorised(row, at)
-                    yield Fault(10, at, f"thresholds fall: it is to be below {before}{hint}")
+                    yield Fault(10, at, f"thresholds fall: it must be below {before}{hint}")
         if row.fields[0] == "demand":
             seats = sum(map(int, row.fields[3:]))
             if seats > MOST_DEMAND:
-                yield Fault(11, None, f"the seats of the row are {seats} together, and {MOST_DEMAND} is the most: "
+                yield Fault(11, None, f"the seats of the row are {seats} together, and {MOST_DEMAND} are allowed: "
                                       "split the product in two")
 
     def hint_of_authorised(self, row: Row, at: int) -> str:
@@ -269,7 +269,7 @@ class Explanation:
         first = row.fields[self.first_threshold]
         if self.version == 2 or at != 4 or int(first) > MOST_SEATS or not self.first_periods:
             return ""
-        return (f"; if {first} are authorised seats, the file is to be of version 2, "
+        return (f"; if {first} are authorised seats, the file must have version 2, "
                 f"with ,2 at the end of line {self.first_periods.line}")
 
 

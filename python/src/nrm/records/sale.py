@@ -21,7 +21,7 @@ class Calendar:
 
     def __init__(self, cuts: Sequence[int], opens: int) -> None:
         if opens <= cuts[0]:
-            raise Stop(f"the sale begins {opens} days before departure, and the first cut is at {cuts[0]}: say an "
+            raise Stop(f"the sale begins {opens} days before departure, and the first cut is at {cuts[0]}: give an "
                        "earlier --opens, or leave out the cut")
         begins, ends = [opens, *cuts], [*(it + 1 for it in cuts), 0]
         self.days = [range(first, last - 1, -1) for first, last in zip(begins, ends)]

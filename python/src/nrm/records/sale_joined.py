@@ -73,15 +73,16 @@ class Stood:
             earned, bound = self.earned(), self.bound()
             less = (f", and no control can earn more than {math.ceil(bound / seasons):,} on this network"
                     if bound < earned else "")
-            yield (f"as joined, what stood takes up to {spoken(joined, seasons)}; {earned / seasons:,.0f} a season was "
-                   f"earned, at these fares{less}: a journey from or to a stop that is joined takes a seat on all of "
+            yield (f"as joined, the bookings that stood take up to {spoken(joined, seasons)}; they earned "
+                   f"{earned / seasons:,.0f} a season at these fares{less}: a journey from or to a stop that is "
+                   f"joined takes a seat on all of "
                    "the leg, so this is another train than the one that ran")
         if others:
-            yield (f"what stood takes up to {spoken(others, seasons)}: so more than these may be sold, or the leg has "
-                   "other seats than the file says")
+            yield (f"the bookings that stood take up to {spoken(others, seasons)}: so more than these may be sold, or "
+                   "the leg has other seats than the file says")
 
 
 def spoken(full: Sequence[Full], seasons: int) -> str:
     """The fullest leg, and how many more there are."""
-    it, more = full[0], f", and more than there are of {len(full) - 1} more" if len(full) > 1 else ""
+    it, more = full[0], f", and more than there are on {len(full) - 1} of the other legs" if len(full) > 1 else ""
     return f"{it.most:,} of {it.seats:,} seats of {it.leg}, in {it.seasons} of {seasons} seasons{more}"

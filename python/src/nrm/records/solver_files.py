@@ -104,7 +104,7 @@ def certificate(network: Network, solution: Solution) -> Iterator[str]:
     if abs(value - solution.value) > Fraction(1, 10**9) * max(Fraction(1), value):
         raise Stop(f"the seats bring {float(value)} at the fares, and the solver has the value "
                    f"{float(solution.value)}: it is the solution of another network, "
-                   "or its decimals are too few to say which fractions they stand for")
+                   "or it has too few decimals to say which fractions they stand for")
     yield f"value {written(value / network.histories)}"
     yield from (f"product {it} {written(seats / network.histories)}" for it, seats in solution.seats.items())
     yield from (f"leg {leg} {written(solution.price.get(leg, Fraction(0)))}" for leg in network.legs)
@@ -113,5 +113,5 @@ def certificate(network: Network, solution: Solution) -> Iterator[str]:
 def written(number: Fraction) -> str:
     """A fraction as a certificate has it."""
     if max(abs(number.numerator), number.denominator) >= 10**MOST_DIGITS:
-        raise Stop(f"the solution has fractions of more than {MOST_DIGITS} digits, and no certificate takes such")
+        raise Stop(f"the solution has fractions of more than {MOST_DIGITS} digits, which no certificate takes")
     return f"{number.numerator}/{number.denominator}"

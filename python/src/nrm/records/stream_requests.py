@@ -38,14 +38,14 @@ class StreamRequests:
 
     def told(self, path: str) -> Iterator[str]:
         """What a stream was read as, and what of it was left out."""
-        yield (f"{said(path)}: requests {self.requests}, seats {sum(self.seats.values())}; cancellations passed over "
+        yield (f"{said(path)}: requests {self.requests}, seats {sum(self.seats.values())}; cancellations ignored "
                f"{self.cancels}")
         if self.unknown:
             names = sorted(self.unknown)
-            yield (f"{said(path)}: seats left out {sum(self.unknown.values())}, of products that the network hasn't: "
-                   f"{', '.join(names[:MOST_NAMED])}{', ..' if names[MOST_NAMED:] else ''}")
-        for lines, which, why in ((self.others, "left out", "are none of a session"),
-                                  (self.backward, "`reoptimise` passed over", "begin no later period of the network")):
+            yield (f"{said(path)}: seats left out {sum(self.unknown.values())}, of products that the network doesn't "
+                   f"have: {', '.join(names[:MOST_NAMED])}{', ..' if names[MOST_NAMED:] else ''}")
+        for lines, which, why in ((self.others, "left out", "no session takes"),
+                                  (self.backward, "`reoptimise` ignored", "begin no later period of the network")):
             if lines:
                 yield f"{said(path)}: lines {which} {len(lines)}, which {why}; the first is line {lines[0]}"
 
@@ -107,7 +107,7 @@ def rows_with(network: Network, histories: Sequence[Mapping[str, Sequence[int]]]
     """The rows of a network with other histories in the place of its own."""
     if len(histories) > MOST_HISTORIES:
         raise Stop(f"these are {len(histories)} histories, and a network file takes {MOST_HISTORIES}: name fewer, "
-                   f"or say --last {MOST_HISTORIES} for the latest")
+                   f"or use --last {MOST_HISTORIES} for the latest")
     for row in network.rows():
         if row[0] != "demand":
             yield [row[0], len(histories), *row[2:]] if row[0] == "periods" else row

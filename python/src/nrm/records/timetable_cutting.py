@@ -30,7 +30,7 @@ class Cut:
         self.network, self.folder, self.output, self.without = network, folder, output, without
         unknown = [it for it in without if it not in network.products]
         if unknown:
-            raise Stop(f"there is no product {unknown[0]}, which is to be left out")
+            raise Stop(f"there is no product {unknown[0]} to leave out")
         self.legs_of = {it.name: it.legs for it in network.products.values() if it.name not in set(without)}
         self.in_all = sum(map(worth, network.products.values()))
         self.written: list[str] = []
@@ -59,7 +59,7 @@ class Cut:
                 yield (f"{said(self.written[-1])}: legs {len(part.legs)}, the first {part.legs[0]}; "
                        f"products {len(part.products)}")
             else:
-                yield f"no product: the leg {part.legs[0]} is in no file"
+                yield f"the leg {part.legs[0]} has no product, and is in no file"
         self.output.add(os.path.join(self.folder, "parts.csv"), text_of(places))
         if self.without:
             left_out = [self.network.products[it] for it in self.without]
@@ -92,7 +92,8 @@ class Cut:
         if self.long:
             more = f" and {len(self.long) - MOST_TOLD} more" if len(self.long) > MOST_TOLD else ""
             yield (f"products over more than {MOST_LEGS_OF_A_PRODUCT} legs, which no file takes: "
-                   f"{', '.join(self.long[:MOST_TOLD])}{more}; docs/network-file.md, 'Why the limits', tells of ways")
+                   f"{', '.join(self.long[:MOST_TOLD])}{more}; docs/network-file.md, 'Why the limits', describes ways "
+                   f"out")
 
     def share(self, products: Sequence[Product]) -> str:
         """The share of some products in what was asked for in all histories at its fare."""
@@ -113,7 +114,7 @@ class Cut:
     def too_large(self, part: Part) -> Iterator[str]:
         """What is told of a part that no file takes."""
         yield (f"too large: {len(part.legs)} legs and {len(part.products)} products, "
-               f"and a file takes {MOST_LEGS} and {MOST_PRODUCTS}; not written")
+               f"and a file takes {MOST_LEGS} and {MOST_PRODUCTS}; it isn't written")
         yield f"    its legs: {' '.join(part.legs)}"
         single = sorted((self.network.products[it] for it in holding(part, self.legs_of)), key=worth)
         if single:
@@ -141,13 +142,13 @@ class Cut:
         rows = [[it.name, " ".join(it.legs), f"{worth(it) / histories:.2f}", self.share([it])[:-2]]
                 for it in sorted(self.proposed, key=worth)]
         self.output.add(path, text_of([["product", "legs", "a season", "share %"], *rows]))
-        yield f"{said(path)}: what is proposed to be left out; with `--leave-out {said(path)}` the rest is written"
+        yield f"{said(path)} has the products that are proposed; `--leave-out {said(path)}` leaves them out and writes the rest"
 
     def of_earlier_runs(self) -> Iterator[str]:
         """Which parts in the folder are of another timetable."""
         there = glob.glob(os.path.join(glob.escape(self.folder), "part-*.csv"))
         for path in sorted({*there} - {*self.written}):
-            yield f"{said(path)}: not of this timetable; it was there before"
+            yield f"{said(path)} isn't of this timetable; it was there before"
 
 def more_than(products: Sequence[Product]) -> str:
     """How many products there are beside those that are told."""

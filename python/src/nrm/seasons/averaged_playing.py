@@ -54,7 +54,7 @@ class PriceDesk:
             for leg in self.network.products[request[0]].legs:
                 self.left[leg] -= request[1]
         elif reply != NOT_ASKED and not isinstance(answer, NoLeg):
-            raise Stop(f"`run first` answers a request by {reply.decode('latin-1')}: is that another program?")
+            raise Stop(f"`run first` answers a request with {reply.decode('latin-1')}: is it another program?")
 
     def fits(self, name: str, prices: Prices) -> bool:
         """Whether a product's fare is at least the prices of its legs."""

@@ -58,11 +58,11 @@ class Compared:
         for name, values in self.revenue.items():
             it = Estimate.of(values)
             rows.append([name, amount(it.mean), amount(it.error)])
-        yield Table("A season on the mean, in currency units", ["", "revenue", "standard error"], rows)
+        yield Table("The mean of a season, in currency units", ["", "revenue", "standard error"], rows)
         differ: list[list[Cell]] = []
         for low, high in itertools.combinations(self.revenue, 2):
             it = Estimate.of([a - b for a, b in zip(self.revenue[high], self.revenue[low])])
             share = 100 * it.mean * len(self.revenue[low]) / max(1, sum(self.revenue[low]))
             differ.append([f"{high} less {low}", amount(it.mean), amount(it.error), *it.ends(), f"{share:.2f} %"])
-        yield Table("What a way earns more than another on the same requests, in currency units a season",
+        yield Table("What one way earns more than another on the same requests, in currency units a season",
                     ["", "mean", "standard error", "from, at 95 %", "to", "share"], differ)

@@ -111,7 +111,7 @@ def temporary_keys() -> Keys:
         return distributed.Security.temporary()
     except ImportError:
         raise Stop(f"{sys.executable} can't make keys for the workers; "
-                   "`apt-get install python3-cryptography` installs what it takes")
+                   "`apt-get install python3-cryptography` installs what it needs")
 
 
 def keys_of(workers: Workers, address: str) -> Keys:
@@ -229,11 +229,11 @@ class Waiting:
         passed = time.monotonic() - self.since
         if passed > self.patience:
             raise Stop(f"no seasons have come back for {self.patience} s: is a worker stopped, lost or slow? "
-                       "--patience sets how long they are waited for; with --out the seasons that were done are kept, "
-                       "and the same line goes on from there")
+                       "--patience sets how long the run waits for them; with --out the seasons that were done are "
+                       "kept, and the same command continues from there")
         if passed > self.late and not self.is_told:
             self.is_told = True
-            self.tell(f"no seasons have come back for {self.late:g} s; they are waited for up to {self.patience} s")
+            self.tell(f"no seasons have come back for {self.late:g} s; the run waits up to {self.patience} s")
 
 
 def batch_told(told: object, here: Maker) -> Batch:

@@ -19,9 +19,9 @@ from nrm.seasons.results import Results, amount, per_cent
 
 Span = tuple[str, str, Sequence[float], float]  # a name, its look, the shares of seasons, and that of all together
 MOST_SPANS, MOST_MEANS, MOST_HISTOGRAMS = 60, 12, 12
-DEMAND_IN_WORDS = {"histories": "the requests of a history, each as likely",
-                   "independent": "for each product the requests of a history, drawn apart",
-                   "poisson": "numbers of Poisson about the mean of the histories, for each product and period apart"}
+DEMAND_IN_WORDS = {"histories": "the requests of a history, all equally likely",
+                   "independent": "the requests of a history for each product, drawn apart",
+                   "poisson": "Poisson numbers about the mean of the histories, for each product and period apart"}
 
 
 @dataclass(frozen=True)
@@ -48,12 +48,12 @@ def about(seasons: int, settings: Settings, results: Mapping[str, Results]) -> I
     if settings.show is not None:
         yield (f"Each seat booked at the end was taken with probability {settings.show:g}. Denied are seats taken "
                f"beyond the physical seats of their leg, at {settings.denied_cost:,} each; empty are physical seats "
-               "that nobody took. The bound knows of neither.")
+               "that nobody took. The bound doesn't count either of them.")
     if settings.leave_out:
         yield "Plans were made without the history that was played."
     if AVERAGED in settings.modes:
-        yield (f"Under {AVERAGED} the prices were the mean of those of each history by itself, made anew at the start "
-               "of each period; a request below them wasn't asked for, and the others were asked at `nrm run first`.")
+        yield (f"Under {AVERAGED} the prices were the mean of those of each history by itself, computed again at the "
+               "start of each period; a request below them wasn't sent, and `nrm run first` answered the others.")
     if len(results) > 1:
         yield "Season by season all networks get the same draws."
     if settings.by_product:
@@ -91,8 +91,8 @@ def of_shares(spans: Sequence[Span]) -> SeasonPicture:
     """The share of the bound in the seasons of each mode."""
     from nrm.pages import charts
     marks = "; ".join(f"{name} {per_cent(mark, 100)}" for name, _, _, mark in spans[:MOST_MEANS])
-    words = ("From the 5th to the 95th of a hundred seasons thin, from the 25th to the 75th thick, the mark at the "
-             f"share of all seasons together: {marks}.")
+    words = ("The thin line goes from the 5th to the 95th of a hundred seasons, the thick line from the 25th to the 75th. "
+             f"The mark is at the share of all seasons together: {marks}.")
     return SeasonPicture("shares", "Share of the bound by mode", words,
                          lambda: charts.spans(spans, "share of the bound, %"))
 
@@ -100,8 +100,8 @@ def of_shares(spans: Sequence[Span]) -> SeasonPicture:
 def of_differences(name: str, title: str, mode: str, values: Sequence[int]) -> SeasonPicture:
     """By how much a mode is ahead of another, season by season."""
     from nrm.pages import charts
-    words = (f"Differences from {min(values):,} to {max(values):,}, on the mean {amount(sum(values) / len(values))}, "
-             f"which the broken line shows; {mode} is ahead in {per_cent(sum(v > 0 for v in values), len(values))} of "
+    words = (f"The differences are from {min(values):,} to {max(values):,}. Their mean is "
+             f"{amount(sum(values) / len(values))}, which the broken line shows; {mode} is ahead in {per_cent(sum(v > 0 for v in values), len(values))} of "
              "the seasons, which are blue.")
     return SeasonPicture(name, title, words, lambda: charts.histogram(values, "currency units", "seasons"))
 

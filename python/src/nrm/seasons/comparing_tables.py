@@ -72,7 +72,7 @@ class Study:
             rows += [[self.named(name, mode), *self.earnings_of(it, mode)] for mode in it.modes]
             bound = it.mean_bound()
             rows.append([self.named(name, "bound"), "" if bound is None else amount(bound), *[None] * (len(heads) - 2)])
-        return Table("A season on the mean, in currency units", heads, rows)
+        return Table("The mean of a season, in currency units", heads, rows)
 
     def earnings_of(self, it: Results, mode: str) -> list[Cell]:
         """What a mode earns on the mean, behind its name."""
@@ -91,7 +91,7 @@ class Study:
         for name, it in self.results.items():
             for mode, other in it.pairs():
                 rows.append(row_of_pair(self.named(name, f"{mode} less {other}"), it.differences(mode, other)))
-        return Table("What a mode earns more than another on the same requests, in currency units a season",
+        return Table("What one mode earns more than another on the same requests, in currency units a season",
                      OF_A_PAIR, rows)
 
     def ranked(self, ranking: Ranking) -> Table:
@@ -117,7 +117,7 @@ class Study:
         earned = {name: it.earned[mode] for name, it in self.results.items()}
         rows = [row_of_pair(f"{b} less {a}", [of_b - of_a for of_b, of_a in zip(earned[b], earned[a])])
                 for a, b in itertools.combinations(earned, 2)]
-        return Table(f"What a network earns more than another under {mode} on the same draws, in currency units a "
+        return Table(f"What one network earns more than another under {mode} on the same draws, in currency units a "
                      "season", OF_A_PAIR, rows)
 
     def loads(self, name: str) -> Table:

@@ -117,7 +117,7 @@ def booking_of(mode: str, reply: bytes) -> int:
     """The number of the booking that a reply says."""
     answer = answer_or_none(reply)
     if not isinstance(answer, Sold) or answer.number > LAST_BOOKING:
-        raise Stop(f"what `run {mode}` answers to a request is no number of a booking: is that another program?")
+        raise Stop(f"what `run {mode}` answers to a request isn't the number of a booking: is it another program?")
     return answer.number
 
 
@@ -153,8 +153,8 @@ def letters_of(mode: str, season: DrawnSeason, replies: list[bytes]) -> bytearra
     except IndexError:
         letters = bytearray()
     if len(letters) != len(season.lines) or OF_MEMORY in letters:
-        raise Stop(f"what `run {mode}` answers to {len(season.lines)} lines is no outcome: "
-                   "is memory short, or is that another program?")
+        raise Stop(f"what `run {mode}` answers to {len(season.lines)} lines isn't an outcome: "
+                   "is memory short, or is it another program?")
     return letters
 
 
@@ -175,7 +175,7 @@ def outcome_of(network: Network, season: DrawnSeason, mode: str, replies: list[b
     letters = letters_of(mode, season, replies)
     sold = letters.translate(ARE_OK)
     if sum(season.asked.values()) != sum(sold) + letters.count(OF_NO):
-        raise Stop(f"`run {mode}` answers requests otherwise than by `ok` and `no`: is that another program?")
+        raise Stop(f"`run {mode}` answers requests with other replies than `ok` and `no`: is it another program?")
     sales, stand = season.tally(sold), bytearray(sold)
     for at in cancelled:
         stand[at] = 0
@@ -183,7 +183,7 @@ def outcome_of(network: Network, season: DrawnSeason, mode: str, replies: list[b
     revenue = sum([network.products[it.product].fare * it.party * it.count for it in booked])
     if last and last.revenue != revenue:
         raise Stop(f"`run {mode}` has a revenue of {last.revenue}, and its replies one of {revenue}: "
-                   "is that another program?")
+                   "is it another program?")
     return Outcome(revenue, last.withheld if last else 0, last.bound if last else None,
                    by_leg(network, ((it.product, it.party * it.count) for it in booked)),
                    shown_of(network, season, stand), refused_of(season, sales))

@@ -69,7 +69,7 @@ class Results:
             with open(path, encoding="ascii", newline="") as file:
                 return cls.of(csv.reader(file))
         except (ValueError, LookupError, StopIteration, OverflowError):
-            raise Stop(f"{said(path)} is no file of rows that simulate wrote")
+            raise Stop(f"{said(path)} isn't a file of rows that simulate wrote")
 
     @classmethod
     def of(cls, rows: Iterator[list[str]]) -> Results:

@@ -199,7 +199,7 @@ class Seasons:
         self.name, self.source, self.network = name, bytes_in(path), Network.read(path)
         self.settings, self.wanted = settings, wanted
         if settings.leave_out and self.network.histories < 2:
-            raise Stop(f"{said(path)} has one history: --leave-out takes two, one to play and one to know")
+            raise Stop(f"{said(path)} has one history, and --leave-out needs two: one to play and one to know")
         self.whole, self.part = (os.path.join(folder, f"{name}-seasons.{ending}") for ending in ("csv", "part"))
         self.size, self.rows = FIRST_TASK, dict[int, str]()
         self.file: IO[bytes] | None = None

@@ -28,7 +28,8 @@ def units_of(network: Network, together: Sequence[Sequence[str]]) -> list[tuple[
         if unknown:
             raise Stop(f"--together {unknown[0]} names no leg")
         if len({network.legs[it].seats for it in legs}) > 1:
-            raise Stop(f"--together: {', '.join(legs)} haven't as many seats as each other, so no one number is theirs")
+            raise Stop(f"--together: {', '.join(legs)} have different numbers of seats, so they can't have one number "
+                       f"of authorised seats")
         groups.append(tuple(legs))
     grouped = [leg for legs in groups for leg in legs]
     if len(set(grouped)) < len(grouped):

@@ -51,13 +51,13 @@ class Judged:
         of_base = sum(it.earned for it in self.unseen[self.base]) / len(self.unseen[self.base])
         share = 100 / of_base if of_base > 0 else 0.0
         low, high = more.mean - more.half(), more.mean + more.half()
-        is_told = "" if low > 0 or high < 0 else ", which can't be told from nothing"
+        is_told = "" if low > 0 or high < 0 else ", which can't be told from 0"
         if self.unseen[self.found] == self.unseen[self.base] and self.seen == self.seen_base:
-            return [f"{self.found}: as much as {self.base}, in each season."]
+            return [f"The result earns as much as {self.base} in each season."]
         flattered, error = seen.mean - more.mean, math.hypot(seen.error, more.error)
         return [
-            f"{self.found}: {amount(more.mean)} a season more than {self.base}{is_told}, between {amount(low)} and "
-            f"{amount(high)} at 95 per cent; that is {share * more.mean:.2f} per cent, give or take "
+            f"The result earns {amount(more.mean)} a season more than {self.base}{is_told}, between {amount(low)} "
+            f"and {amount(high)} at 95 per cent; that is {share * more.mean:.2f} per cent, give or take "
             f"{share * more.half():.2f}.",
-            f"In the {len(self.seen):,} seasons of the search, by which it was picked, it was {amount(seen.mean)}: "
+            f"In the {len(self.seen):,} seasons of the search, by which it was picked, that was {amount(seen.mean)}: "
             f"these flatter it by {amount(flattered)}, give or take {amount(NINETY_FIVE * error)}."]

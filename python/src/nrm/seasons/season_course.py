@@ -214,7 +214,7 @@ def of_modes(season: Season) -> str:
     """What each mode earns, and its share of the bound, the most first."""
     ends = [(it.mode, it.points[-1]) for it in season.courses]
     if any(point.revenue is None or point.bound is None for _, point in ends):
-        return ("The bound's linear program is too large for this season, so neither it nor revenues are told. One "
+        return ("The bound's linear program is too large for this season, so neither it nor revenues are shown. One "
                 "season says little of others.")
     ranked = sorted(((point.revenue or 0, mode, point.bound or 0) for mode, point in ends), key=lambda it: -it[0])
     (most, best, bound), *others = ranked
@@ -234,9 +234,9 @@ def abouts(season: Season) -> dict[str, tuple[str, str]]:
         "bid-prices": ("Bid prices", "The bid price of each leg over the season, under bid and under davn; the tables "
                        "have each number."),
         "seats": (f"The seats of {leg}", "In each mode the seats sold, those left, and those protected by bucket, "
-                  f"behind each line. Sold at the end: {sold}."),
+                  f"after each line. Sold at the end: {sold}."),
         "revenue": ("Revenue", f"The revenue of each mode beside the bound of hindsight. At the end: {last}."),
-        "refused": ("Refusals", "Of each product the share of its requests that was refused. In all were refused: "
+        "refused": ("Refusals", "The share of the requests for each product that was refused. In all were refused: "
                     f"{refused}, of {sum(courses[0].asked.values()):,}.")}
 
 
@@ -250,7 +250,7 @@ def page(season: Season, made_of: Made, told: Sequence[Table], left_out: Sequenc
     for name, svg in pictures.items():
         made.picture(svg, *abouts(season)[name], is_large=True)
     made.heading("Tables")
-    made.text("Each point of the season is behind a line of the stream: "
+    made.text("Each point of the season comes after a line of the stream: "
               + ", ".join(f"{name} {number:,}" for number, name in season.stream.points) + ".")
     for text in left_out:
         made.text(text)

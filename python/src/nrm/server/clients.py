@@ -7,11 +7,12 @@ import socket
 import ssl
 import weakref
 from dataclasses import dataclass
-from typing import Protocol
+from typing import Callable
 
 from nrm.desks_frames import MOST, WINDOW
 from nrm.server.access import Right
 from nrm.server.counters import Counters
+from nrm.server.event_log import Events
 from nrm.server.loop import LEFT, READ, WRITE, Loop
 from nrm.server.passing_on import PASSED
 from nrm.server.tls import RECORD, Secure
@@ -48,73 +49,64 @@ class ClientLimits:
         return max(1, self.clients - max(1, self.clients // 10))
 
 
-class ClientSession(Protocol):
-    """What a client needs of the run of its network's program."""
-    is_full: bool
+@dataclass(frozen=True)
+class Reception:
+    """What all clients of a server have in common, and what each calls.
 
-    def give(self, client: Client, data: bytes) -> None:
-        """Gives the program what came from a client."""
-
-    def part(self, client: Client) -> None:
-        """Tells the program that a client is gone."""
-
-
-class ClientHall(Protocol):
-    """What a client needs of the server that it came to."""
-    limits: ClientLimits
+    enter   once it has named its network, or none for the only one, with what came so far
+    leave   once it is no more
+    status  for what is answered to a line `status`
+    """
     loop: Loop
-    tokens: Tokens
+    events: Events
     counters: Counters
+    limits: ClientLimits
+    tokens: Tokens
+    enter: Callable[[Client, str | None, bytes], None]
+    leave: Callable[[Client], None]
+    status: Callable[[], bytes]
 
-    def enter(self, client: Client, network: str | None, data: bytes) -> None:
-        """Finds a client its network, the only one if it named none, and gives it what came so far."""
-
-    def leave(self, client: Client) -> None:
-        """Forgets a client."""
-
-    def status_text(self) -> bytes:
-        """What is answered to a line `status`."""
-
-    def tell_of_closed(self, client: Client, why: str) -> None:
+    def tell_of_closed(self, network: str | None, why: str) -> None:
         """Counts and tells why a client is closed."""
-
-    def tell_of_unread(self) -> None:
-        """Counts and tells that a client is dropped which doesn't take its replies."""
+        self.counters.closed[why] += 1
+        self.events.tell("closed", reason=why, network=network)
 
 
 class Client:
     """A connection. The bytes that the program has of it and hasn't used are counted, and those behind the last line
     feed; nothing else is looked at once its desk and its network are known."""
     is_passed = False  # by another server, so that it isn't passed on once more
-    asked = b""  # what came until its network was known, as it came
+    asked = first = b""  # what came until its network was known, as it came; and what of it is still to be looked at
+    right: Right | None = None  # by its token
+    secure: Secure | None = None
+    may_give_token = True
+    is_refused = False  # the answer to its wrong token waits
+    network: str | None = None  # its name, once it is known
+    asks_status = is_told = False  # whether that it is closed was told
+    place, unused, tail = -1, 0, 0  # no place yet
+    is_waiting = False  # for its network's program
+    is_let_in = is_full = False  # at a place there, and whether that program has so much that no more is read
+    give: Callable[[Client, bytes], None]  # what came to the program
+    part: Callable[[Client], None]  # from the program, which hears that the client is gone
+    is_open = is_heard = True
+    has_ended = is_parting = is_done = False
+    why: str | None = None  # it is cut off, once its lines are answered
+    full_since: float | None = None
 
-    def __init__(self, hall: ClientHall, connection: socket.socket, address: str = HERE,
+    def __init__(self, reception: Reception, connection: socket.socket, address: str = HERE,
                  context: ssl.SSLContext | None = None) -> None:
         connection.setblocking(False)
         if connection.family != socket.AF_UNIX:
             connection.setsockopt(socket.IPPROTO_TCP, socket.TCP_NODELAY, 1)
-        self.hall, self.address, self.counters = hall, address, hall.counters
+        self.reception, self.loop, self.counters = reception, reception.loop, reception.counters
+        self.address, self.out = address, bytearray()
         self.secure = Secure(connection, context) if context else None
         self.socket = self.secure or connection
         self.file = self.socket.fileno()
         self.least = RECORD if context else 1  # the bytes for which there must be room when it is read
-        self.right: Right | None = None  # by its token
-        self.is_to_give_token = hall.tokens.access is not None and address != HERE
-        self.may_give_token = True
-        self.is_refused = False  # the answer to its wrong token waits
-        self.session: ClientSession | None = None
-        self.network: str | None = None  # its name, once it is known
-        self.asks_status = self.is_told = False  # whether that it is closed was told
-        self.place = -1  # none yet
-        self.first, self.out = b"", bytearray()
-        self.unused = self.tail = 0
-        self.is_waiting = False  # for its network's program
-        self.is_heard = True
-        self.is_open, self.has_ended, self.is_parting, self.is_done = True, False, False, False
-        self.why: str | None = None  # it is cut off, once its lines are answered
+        self.is_to_give_token = reception.tokens.access is not None and address != HERE
         # since when its time runs: from the connection until it is somebody, then from where a line begins or ends
-        self.since = hall.loop.now
-        self.full_since: float | None = None
+        self.since = self.loop.now
         self.watch()
 
     # What comes
@@ -124,18 +116,14 @@ class Client:
         if not self.is_open:
             return
         self.is_heard = not (self.has_ended or self.why or self.is_done or self.is_waiting or len(self.out) > MOST
-                             or self.unused > WINDOW - self.least or self.session and self.session.is_full
+                             or self.unused > WINDOW - self.least or self.is_let_in and self.is_full
                              or self.asks_status and self.out)
         what = (READ if self.is_heard else 0) | (WRITE if self.out else 0)
         what = self.secure.watched(what) if self.secure else what
-        if self.is_refused and not self.is_done:
-            self.hall.loop.want(self.file, LEFT, self.go)
+        if self.is_refused and not self.is_done:  # one that leaves while its answer waits keeps no place
+            self.loop.want(self.file, LEFT, lambda _: self.vanish())
         else:
-            self.hall.loop.want(self.file, what, self.read if what == READ else self.ready)
-
-    def go(self, _: int) -> None:
-        """It has left while its answer waited, and keeps no place."""
-        self.vanish()
+            self.loop.want(self.file, what, self.read if what == READ else self.ready)
 
     def ready(self, what: int) -> None:
         """Reads and sends what can be."""
@@ -163,7 +151,7 @@ class Client:
         self.counters.bytes_in += len(piece)
         if self.secure:
             self.watch()
-        if piece and self.session:
+        if piece and self.is_let_in:
             self.pass_on(piece)
         elif piece:
             self.choose(piece)
@@ -174,7 +162,7 @@ class Client:
         """Finds the desk by the first line, if that has a token, and the network by the next one, if that names one, or
         by its first bytes."""
         if not self.first and not self.is_to_give_token:
-            self.since = self.hall.loop.now
+            self.since = self.loop.now
         self.first += piece
         if not self.is_passed and PASSED[:len(self.first)] == self.first[:len(PASSED)]:
             self.is_passed = len(self.first) >= len(PASSED)
@@ -210,7 +198,7 @@ class Client:
         while self.first and not (self.out or self.is_done) and self.is_open:
             if ASKS_STATUS.match(self.first):
                 self.first = self.first.partition(b"\n")[2]
-                self.put(self.hall.status_text())
+                self.put(self.reception.status())
             elif any(it.startswith(self.first) for it in FRONTS[1:]):
                 return
             else:
@@ -236,11 +224,11 @@ class Client:
         """Has a token looked up. A wrong one may be answered later: nothing is read until then, and nothing of a client
         that has left is kept for it."""
         self.is_waiting, self.may_give_token = True, False
-        self.right, wait = self.hall.tokens.asked(self.address, token)
+        self.right, wait = self.reception.tokens.asked(self.address, token)
         if wait:
             self.is_refused = True
             answer = weakref.WeakMethod(self.answer_token)
-            self.hall.loop.call_at(self.hall.loop.now + wait, lambda: call() if (call := answer()) else None)
+            self.loop.call_at(self.loop.now + wait, lambda: call() if (call := answer()) else None)
             self.watch()
         else:
             self.answer_token()
@@ -250,7 +238,7 @@ class Client:
         if not self.is_open or self.is_done:
             return
         self.is_waiting = self.is_to_give_token = self.is_refused = False
-        self.since = self.hall.loop.now
+        self.since = self.loop.now
         if not self.right:
             self.finish("token")
             return
@@ -264,7 +252,7 @@ class Client:
         """Comes to a network, whose program may still have to begin, or which another server has."""
         self.asked, self.first = self.first, b""
         self.is_waiting = True
-        self.hall.enter(self, network, data)
+        self.reception.enter(self, network, data)
         self.watch()
 
     def may_be_passed(self) -> bool:
@@ -274,14 +262,15 @@ class Client:
     def hand_on(self) -> tuple[socket.socket, bytes]:
         """Its connection and what came on it, which aren't this client's any more."""
         assert isinstance(self.socket, socket.socket)
-        self.hall.loop.forget(self.file)
+        self.loop.forget(self.file)
         self.is_open, self.is_waiting, self.is_done, self.is_told = False, False, True, True
-        self.hall.leave(self)
+        self.reception.leave(self)
         return self.socket, self.asked
 
-    def let_in(self, session: ClientSession, place: int, data: bytes) -> None:
+    def let_in(self, place: int, give: Callable[[Client, bytes], None], part: Callable[[Client], None],
+               data: bytes) -> None:
         """Is at a place of its network's program, which gets what came so far."""
-        self.session, self.place, self.is_waiting = session, place, False
+        self.place, self.give, self.part, self.is_let_in, self.is_waiting = place, give, part, True, False
         for at in range(0, len(data), MOST):
             self.pass_on(data[at:at + MOST])
         if self.has_ended:
@@ -290,20 +279,19 @@ class Client:
 
     def pass_on(self, piece: bytes) -> None:
         """Gives the program a piece. Bytes within a line don't give it more time."""
-        assert self.session
         size, last = len(piece), piece.rfind(b"\n")
         if last >= 0 or not self.tail:
-            self.since = self.hall.loop.now
+            self.since = self.loop.now
         self.unused += size
         self.tail = size - 1 - last if last >= 0 else self.tail + size
-        self.session.give(self, piece)
+        self.give(self, piece)
         if self.unused > WINDOW - self.least:
             self.watch()
 
     def end(self) -> None:
         """Nothing more comes: half a line at the end isn't taken."""
         self.has_ended = True
-        if not self.session and not self.is_waiting:
+        if not self.is_let_in and not self.is_waiting:
             self.finish(None)
         else:
             self.part_if_used()
@@ -350,12 +338,12 @@ class Client:
             except OSError:
                 self.vanish()
                 return
-        if len(self.out) > self.hall.limits.unsent:
+        if len(self.out) > self.reception.limits.unsent:
             self.cut_off()
         elif self.is_done and not self.out:
             self.shut()
         else:
-            self.full_since = (self.full_since or self.hall.loop.now) if len(self.out) > MOST else None
+            self.full_since = (self.full_since or self.loop.now) if len(self.out) > MOST else None
             self.watch()
 
     # How it ends
@@ -365,7 +353,7 @@ class Client:
         if self.why or self.is_done:
             return
         self.why = why
-        if self.session:
+        if self.is_let_in:
             self.part_if_used()
             self.watch()
         else:
@@ -373,24 +361,24 @@ class Client:
 
     def part_if_used(self) -> None:
         """Tells the program that it is gone, once all its whole lines are used."""
-        if self.session and not self.is_parting and self.unused <= self.tail:
+        if self.is_let_in and not self.is_parting and self.unused <= self.tail:
             self.is_parting = True
-            self.session.part(self)
+            self.part(self)
 
     def closed(self, why: str) -> None:
         """The program has closed it; if since it is gone, the reason is this server's."""
-        self.session = None
+        self.is_let_in = False
         if self.is_open and not self.is_done:
             self.finish(self.why if why == "gone" else why)
         elif not self.is_open:
-            self.hall.leave(self)
+            self.reception.leave(self)
 
     def finish(self, why: str | None) -> None:
         """Says why, and ends the connection once all is sent. The program knows it no more."""
         if why and self.is_open and not self.is_done:
             self.is_told = True
-            self.hall.tell_of_closed(self, why)
-        self.session, self.is_waiting, self.is_done, self.since = None, False, True, self.hall.loop.now
+            self.reception.tell_of_closed(self.network, why)
+        self.is_let_in, self.is_waiting, self.is_done, self.since = False, False, True, self.loop.now
         if self.secure and not self.secure.is_shaken:
             self.vanish()  # nothing can be said to it
             return
@@ -411,25 +399,26 @@ class Client:
     def cut_off(self) -> None:
         """It doesn't take its replies, so what is unsent is dropped."""
         self.is_told = True
-        self.hall.tell_of_unread()
+        self.counters.unread += 1
+        self.reception.events.tell("unread")
         self.vanish()
 
     def vanish(self) -> None:
         """The connection is no more. Its place is free once the program says so."""
         if self.is_open:
             self.is_open = self.is_waiting = False
-            self.hall.loop.forget(self.file)
+            self.loop.forget(self.file)
             self.socket.close()
             self.out.clear()
-        if not self.session:
-            self.hall.leave(self)
+        if not self.is_let_in:
+            self.reception.leave(self)
         elif not self.is_parting:
             self.is_parting = True
-            self.session.part(self)
+            self.part(self)
 
     def look(self) -> None:
         """Cuts it off if for too long it has been silent, in a line, nobody yet, or not taking its replies."""
-        limits, now = self.hall.limits, self.hall.loop.now
+        limits, now = self.reception.limits, self.loop.now
         if not self.is_open:
             return
         if now - (self.full_since or (self.since if self.is_done else now)) > limits.slow:

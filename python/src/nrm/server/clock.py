@@ -10,39 +10,22 @@ import contextlib
 import heapq
 import time
 from dataclasses import dataclass
-from typing import Callable, Iterable, Iterator, Protocol, Sequence
+from typing import Callable, Iterable, Iterator
 
 from nrm.journal.networks import network_in
 from nrm.journal.plans_due import Standing, missed, standings
-from nrm.journal.stores import Opened, Tables, Writer
+from nrm.journal.stores import Tables
 from nrm.server.access import CLOCK
-from nrm.server.clients import Client, ClientHall
+from nrm.server.arrivals import Arrivals
 from nrm.server.event_log import Events
+from nrm.server.group_commit import GroupCommit
+from nrm.server.loop import Loop
 from nrm.server.own_client import Own
 from nrm.server.plan_outcome import PlanOutcome, outcome_of
 
 AT_ONCE = 4  # networks for which plans are made at a time
 PAUSE = 60.0  # the seconds before it is tried again
 MOST_SKIPPED = 5  # seconds in which rows were being written, before all are looked at all the same
-
-
-class ClockKeeper(ClientHall, Protocol):
-    """What the clock needs of its server, beside what a client does."""
-    events: Events
-    reader: Tables
-    writer: Writer
-    clients: set[Client]
-    stops: bool
-
-    @property
-    def in_writing(self) -> Sequence[object]:
-        """The rows that are being written."""
-
-    def is_answered(self, network: Opened) -> bool:
-        """Whether this server answers for a network."""
-
-    def may_read(self) -> bool:
-        """Whether the journal is reached, so that to ask it keeps nobody waiting."""
 
 
 @dataclass(frozen=True)
@@ -56,13 +39,15 @@ class AskedPlan:
 class Clock:
     """Sends `reoptimise K` to each network whose period K has begun, once, and if it is so wanted every so often.
 
-    hall   the server
-    every  the seconds after which the plan is made anew, if lines were written since; 0 for never
-    time   the seconds since 1970 began
+    tables  the journal, as it is read
+    every   the seconds after which the plan is made anew, if lines were written since; 0 for never
+    time    the seconds since 1970 began
     """
 
-    def __init__(self, hall: ClockKeeper, every: int = 0, time: Callable[[], float] = time.time) -> None:
-        self.hall, self.every, self.time = hall, 1000 * every, time
+    def __init__(self, loop: Loop, events: Events, tables: Tables, commits: GroupCommit, arrivals: Arrivals,
+                 every: int = 0, time: Callable[[], float] = time.time) -> None:
+        self.loop, self.events, self.tables, self.commits, self.arrivals = loop, events, tables, commits, arrivals
+        self.every, self.time = 1000 * every, time
         self.now = 0
         self.version = self.rows_version = -1  # of the journal, as others and as all have written it
         self.skipped = 0
@@ -74,13 +59,13 @@ class Clock:
         self.asked: dict[int, AskedPlan] = {}
         self.again: dict[int, float] = {}  # when it may be tried again, by the loop's clock
         self.given_up: dict[int, int] = {}  # the period that has no plan
-        hall.loop.looks.append(self.look)
+        loop.looks.append(self.look)
 
     # Once a second
 
     def look(self) -> None:
         """Finds the networks that are due, and has plans made."""
-        if self.hall.stops or not self.hall.may_read():
+        if self.loop.is_ending or not self.arrivals.owning.may_read():
             return
         before, self.now = self.now, int(1000 * self.time())
         with self.reading():
@@ -95,17 +80,17 @@ class Clock:
         """Where the journal can't be read that is told, and all is looked at in the next second."""
         try:
             yield
-        except self.hall.reader.faults as fault:
+        except self.tables.faults as fault:
             self.is_to_look = True
-            self.hall.events.tell("clock-failed", why=str(fault))
+            self.events.tell("clock-failed", why=str(fault))
 
     def is_changed(self) -> bool:
         """Whether another process has written the journal. The writer tells it, to which its own rows are no change; it
         isn't asked while it writes, but then all are looked at after some seconds."""
         self.skipped += 1
         is_changed = self.is_to_look or self.skipped > MOST_SKIPPED
-        if not self.hall.in_writing:
-            before, self.version, self.skipped = self.version, self.hall.writer.version(), 0
+        if not self.commits.in_writing:
+            before, self.version, self.skipped = self.version, self.commits.writer.version(), 0
             is_changed = is_changed or self.version != before
         return is_changed
 
@@ -113,7 +98,7 @@ class Clock:
         """Looks at each network that has times."""
         self.is_to_look, self.skipped = False, 0
         self.when, self.next, self.due, self.quiet = {}, [], set(), {}
-        for it in standings(self.hall.reader, self.now, self.every):
+        for it in standings(self.tables, self.now, self.every):
             self.place(it)
 
     def look_at_some(self) -> None:
@@ -122,10 +107,10 @@ class Clock:
             when, network = heapq.heappop(self.next)
             if self.when.get(network) == when:
                 self.look_at(network)
-        version = self.hall.reader.version() if self.quiet else self.rows_version
+        version = self.tables.version() if self.quiet else self.rows_version
         if version != self.rows_version:
             self.rows_version = version
-            grown = [number for number, lines in self.hall.reader.execute("SELECT network, lines FROM head")
+            grown = [number for number, lines in self.tables.execute("SELECT network, lines FROM head")
                      if lines > self.quiet.get(number, lines)]
             for network in grown:
                 self.look_at(network)
@@ -135,7 +120,7 @@ class Clock:
         self.due.discard(network)
         self.when.pop(network, None)
         self.quiet.pop(network, None)
-        found = standings(self.hall.reader, self.now, self.every, network)
+        found = standings(self.tables, self.now, self.every, network)
         for it in found:
             self.place(it)
         return found[0] if network in self.due else None
@@ -160,7 +145,7 @@ class Clock:
         when = standing.due_at(self.every)
         if when is not None and self.given_up.get(standing.network) == standing.period and when <= self.now:
             when = standing.next_at
-        pause = self.again.get(standing.network, 0) - self.hall.loop.now
+        pause = self.again.get(standing.network, 0) - self.loop.now
         return max(when, self.now + int(1000 * pause)) if when is not None and pause > 0 else when
 
     # What is sent
@@ -172,26 +157,26 @@ class Clock:
             if not standing:
                 continue
             self.due.remove(standing.network)
-            network = network_in(self.hall.reader, standing.name)
-            if network and not network.ended and not network.halted and self.hall.is_answered(network):
+            network = network_in(self.tables, standing.name)
+            if network and not network.ended and not network.halted and self.arrivals.is_answered(network):
                 self.ask(standing)
 
     def has_room(self) -> bool:
         """Whether few are being asked; those that take long don't count, so that others don't wait for them."""
-        return sum(self.hall.loop.now - it.since < PAUSE for it in self.asked.values()) < AT_ONCE
+        return sum(self.loop.now - it.since < PAUSE for it in self.asked.values()) < AT_ONCE
 
     def ask(self, standing: Standing) -> None:
         """Asks for a plan, with a look before and behind it."""
-        own = Own(self.hall, CLOCK, lambda own, why: self.over(standing.network, own, why))
-        left_out = missed(self.hall.reader, standing, self.now)
-        self.asked[standing.network] = AskedPlan(standing, left_out, self.hall.loop.now)
-        self.hall.clients.add(own)
+        own = Own(self.arrivals.reception, CLOCK, lambda own, why: self.over(standing.network, own, why))
+        left_out = missed(self.tables, standing, self.now)
+        self.asked[standing.network] = AskedPlan(standing, left_out, self.loop.now)
+        self.arrivals.clients.add(own)
         own.enter(standing.name, f"desk {CLOCK.name}\nplan\nreoptimise {standing.period}\nplan\n".encode())
 
     def over(self, network: int, own: Own, why: str | None) -> None:
         """Tells what became of it, and goes on."""
         asked = self.asked.pop(network)
-        if self.hall.stops:
+        if self.loop.is_ending:
             return
         self.settle(asked, outcome_of(own.told, why))
         with self.reading():
@@ -203,18 +188,18 @@ class Clock:
         network, name, period = asked.standing.network, asked.standing.name, asked.standing.period
         is_again = outcome.fault is not None and not outcome.fails_again
         if is_again:
-            self.again[network] = self.hall.loop.now + PAUSE
+            self.again[network] = self.loop.now + PAUSE
         else:
             self.again.pop(network, None)
         if outcome.fails_again:
             self.given_up[network] = period
         if outcome.fault:
-            self.hall.events.tell("clock-failed", network=name, period=period, why=outcome.fault,
+            self.events.tell("clock-failed", network=name, period=period, why=outcome.fault,
                                   again=f"{PAUSE:g}" if is_again else "no")
             return
         if asked.missed:
-            self.hall.events.tell("clock-missed", network=name, periods=joined(asked.missed))
-        self.hall.events.tell("clock", network=name, period=period, seconds=outcome.seconds, value=outcome.value,
+            self.events.tell("clock-missed", network=name, periods=joined(asked.missed))
+        self.events.tell("clock", network=name, period=period, seconds=outcome.seconds, value=outcome.value,
                               changed="unknown" if outcome.changed is None else joined(outcome.changed))
 
 

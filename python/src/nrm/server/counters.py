@@ -35,6 +35,10 @@ class Counters:
         self.times = [0] * (len(BOUNDS) + 1)
         self.begun = self.ended = self.passed = self.taken = self.lost = self.jumps = 0
 
+    def running(self) -> int:
+        """The programs that run now."""
+        return self.begun - self.ended
+
     def commit(self, seconds: float, rows: int, is_whole: bool) -> None:
         """Counts a commit, with the rows that it wrote, and whether these are all that it was to write."""
         self.commits += 1

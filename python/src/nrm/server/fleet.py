@@ -7,16 +7,14 @@ what stands here decides only when they are tried.
 from __future__ import annotations
 
 from dataclasses import dataclass, replace
-from typing import Callable, Protocol, Sequence
+from typing import Callable, Sequence
 
 from nrm import Stop
 from nrm.journal.networks import file_of
-from nrm.journal.stores import Head, Member, Named, Opened, Replaced, SeenServers, Store
-from nrm.server.counters import Counters
-from nrm.server.event_log import Events
+from nrm.journal.stores import Head, Member, Named, Opened, Replaced, SeenServers
 from nrm.server.fleet_owners import MOVES, preferred, wanted_of
-from nrm.server.journal_asking import Asker, Feed, RowPieces, Worker
-from nrm.server.loop import Loop
+from nrm.server.journal_asking import Feed, Journal, Worker
+from nrm.server.programs import Programs
 from nrm.server.sessions import ANSWERS, FOLLOWS, RESTS, Session
 from nrm.server.status_text import FleetStatus, Share
 
@@ -40,43 +38,25 @@ class Sharing:
     followers: int = 100
 
 
-class FleetKeeper(Protocol):
-    """What is needed of the server."""
-    loop: Loop
-    events: Events
-    counters: Counters
-    asker: Asker
-    sessions: dict[str, Session]
-
-    def fail(self, fault: Exception) -> None:
-        """Ends all."""
-
-    def stop(self) -> None:
-        """Has the server end."""
-
-    def session_for(self, network: Opened) -> Session:
-        """The session of a network, which is made if nobody came to it before."""
-
-    def follow(self, session: Session, network: Opened, file: bytes, rows: RowPieces) -> bool:
-        """Begins a program that follows a network's journal; gives whether it did."""
-
-
 class Fleet:
-    """What this server has, and what it knows of the others."""
+    """What this server has, and what it knows of the others. `stop` has the server end, and `fail` ends all."""
 
-    def __init__(self, keeper: FleetKeeper, store: Store, named: Named, sharing: Sharing) -> None:
-        self.keeper, self.store, self.named, self.sharing = keeper, store, named, sharing
-        members = store.members(named)
+    def __init__(self, journal: Journal, programs: Programs, named: Named, sharing: Sharing, stop: Callable[[], None],
+                 fail: Callable[[Exception], None]) -> None:
+        self.journal, self.programs, self.named, self.sharing = journal, programs, named, sharing
+        self.stop, self.fail = stop, fail
+        self.loop, self.events, self.counters = programs.loop, programs.events, programs.counters
+        members = journal.store.members(named)
         try:
             self.seen = members.beat(False)
         except members.faults as fault:
-            raise Stop(f"{store.place}: {' '.join(str(fault).split())}")
+            raise Stop(f"{journal.store.place}: {' '.join(str(fault).split())}")
         if not self.is_durable(self.seen):
             raise Stop(WEAK.format(self.seen.weakness))
         self.heads: dict[str, Head] = {it.name: it for it in self.seen.heads}
         self.by_number: dict[int, Head] = {it.number: it for it in self.seen.heads}
-        self.owned: dict[int, int] = {}  # networks, by their epochs, whose takings were acknowledged
-        self.histories: dict[int, str] = {}  # the pasts of the database that the takings are in
+        # networks, by their epochs, whose takings were acknowledged, and the pasts of the database that these are in
+        self.owned, self.histories = programs.owned.epochs, programs.owned.histories
         self.known: dict[int, int] = {}  # how many lines of each were answered here: they can't become fewer
         self.feeds: dict[int, Feed] = {}  # of the networks that are followed
         self.loading: set[int] = set()  # those of them whose network files are being read
@@ -84,9 +64,9 @@ class Fleet:
         self.taking: set[int] = set()
         self.waiting: list[Callable[[], None]] = []
         self.is_beating = self.is_leaving = self.is_closed = False
-        self.leaving_since = self.seen_at = self.asked_at = keeper.loop.now
-        self.worker = Worker(keeper.loop, members)
-        keeper.loop.soon.append(lambda: self.looked(self.known, self.seen, None))
+        self.leaving_since = self.seen_at = self.asked_at = self.loop.now
+        self.worker = Worker(self.loop, members)
+        self.loop.soon.append(lambda: self.looked(self.known, self.seen, None))
 
     def is_durable(self, seen: SeenServers) -> bool:
         """Whether the database acknowledges nothing that one disk alone has, or may."""
@@ -106,10 +86,6 @@ class Fleet:
         """The bytes of the journal."""
         return self.seen.size
 
-    def epoch_of(self, network: int) -> int | None:
-        """The epoch of a taking that was acknowledged, if there is one and nobody else was seen to have it."""
-        return self.owned.get(network)
-
     def elsewhere(self, network: Opened) -> str | None:
         """Where a client finds a network that isn't here."""
         if network.number in self.owned:
@@ -128,10 +104,6 @@ class Fleet:
         head = self.heads.get(name)
         return next((it for it in self.seen.members if head and it.server == head.server), None)
 
-    def may_adopt(self) -> bool:
-        """Whose a network is is decided by its program."""
-        return False
-
     def owner_of(self, name: str) -> str:
         """The name of the server that has a network, or `none`."""
         head = self.heads.get(name)
@@ -142,7 +114,7 @@ class Fleet:
 
     def fleet(self) -> tuple[FleetStatus, tuple[Share, ...]]:
         """What is told of the servers, and whose each network is."""
-        counters = self.keeper.counters
+        counters = self.counters
         told = FleetStatus(self.named.name, self.named.address or "none", len(self.seen.members), len(self.owned),
                            len(self.feeds), counters.taken, counters.lost, counters.passed)
         return told, tuple(Share(it.name, self.owner_of(it.name), it.epoch, it.number in self.feeds)
@@ -150,7 +122,7 @@ class Fleet:
 
     def may_read(self) -> bool:
         """Whether the journal was reached by a look that isn't old."""
-        return self.keeper.loop.now - self.seen_at < OLD
+        return self.loop.now - self.seen_at < OLD
 
     # Twice a second
 
@@ -159,9 +131,9 @@ class Fleet:
         if self.is_beating or self.is_closed:
             return
         self.is_beating = True
-        for session in self.keeper.sessions.values():
+        for session in self.programs.sessions.values():
             self.remember(session)
-        known, is_leaving, self.asked_at = dict(self.known), self.is_leaving, self.keeper.loop.now
+        known, is_leaving, self.asked_at = dict(self.known), self.is_leaving, self.loop.now
         waiting, self.waiting = self.waiting, []
         self.worker.ask(lambda members: members.beat(is_leaving),
                         lambda seen, why: self.looked(known, seen, why, waiting))
@@ -173,14 +145,14 @@ class Fleet:
         self.is_beating = False
         if self.is_closed:
             return
-        self.keeper.loop.call_at(self.keeper.loop.now + BEAT, self.beat)
+        self.loop.call_at(self.loop.now + BEAT, self.beat)
         if isinstance(fault, Replaced):
-            self.keeper.fail(fault)
+            self.fail(fault)
         elif fault or not seen or not self.is_durable(seen):  # nobody takes anything, nor is anything answered
             why = fault or WEAK.format(seen.weakness if seen else "")
-            self.keeper.events.tell("database", why=" ".join(str(why).split()))
+            self.events.tell("database", why=" ".join(str(why).split()))
             if self.is_leaving and not self.may_read():
-                self.keeper.stop()  # nobody can take anything
+                self.stop()  # nobody can take anything
         else:
             self.see(known, seen)
         for then in waiting:
@@ -208,9 +180,9 @@ class Fleet:
         if head.lines < known and not head.halted:
             why = f"lines {head.lines + 1} to {known} were answered and are gone from the journal"
             self.give_up(head.number)
-            self.keeper.asker.ask(lambda tables: self.store.halt(head.number, head.epoch, why),
+            self.journal.asker.ask(lambda tables: self.journal.store.halt(head.number, head.epoch, why),
                                   lambda _: self.given_up(head.number))
-            self.keeper.events.tell("halted", network=head.name, row=head.lines + 1, why=why)
+            self.events.tell("halted", network=head.name, row=head.lines + 1, why=why)
             self.forget(head, "halted")
             self.known.pop(head.number, None)
         elif head.number in self.owned and head.epoch > self.owned[head.number] and not self.is_answering(head):
@@ -221,7 +193,7 @@ class Fleet:
     def is_answering(self, head: Head) -> bool:
         """Whether a network that nobody else has, since its rights have changed, is answering lines: what was written
         of them is answered yet, and the next commit shows the change."""
-        session = self.keeper.sessions.get(head.name)
+        session = self.programs.sessions.get(head.name)
         is_busy = session is not None and session.state == ANSWERS and (session.is_keeping or session.is_asked())
         return head.server is None and is_busy
 
@@ -233,7 +205,7 @@ class Fleet:
 
     def disown(self, name: str, network: int) -> None:
         """This server has a network no more, but knows how many of its lines it has answered."""
-        if session := self.keeper.sessions.get(name):
+        if session := self.programs.sessions.get(name):
             self.remember(session)
         self.owned.pop(network, None)
 
@@ -247,9 +219,9 @@ class Fleet:
         """This server has a network no more."""
         self.disown(head.name, head.number)
         if why != "halted":
-            self.keeper.counters.lost += 1
-            self.keeper.events.tell("lost", network=head.name, owner=self.owner_of(head.name))
-        session = self.keeper.sessions.get(head.name)
+            self.counters.lost += 1
+            self.events.tell("lost", network=head.name, owner=self.owner_of(head.name))
+        session = self.programs.sessions.get(head.name)
         if session:
             session.network = replace(session.network, halted=session.network.halted or head.halted)
             session.lose(why)
@@ -271,7 +243,7 @@ class Fleet:
         and then they are taken anew."""
         self.taking -= {it.number for it in heads}
         if fault or not found:
-            self.keeper.events.tell("database", why=" ".join(str(fault).split()))
+            self.events.tell("database", why=" ".join(str(fault).split()))
             return
         taken, history = found
         for head in heads:
@@ -283,9 +255,9 @@ class Fleet:
         """This server has a network, by a commit in a past of the database."""
         self.owned[head.number], self.histories[head.number] = head.epoch, history
         self.heads[head.name] = self.by_number[head.number] = head
-        self.keeper.counters.taken += 1
-        self.keeper.events.tell("taken", network=head.name, epoch=head.epoch, lines=head.lines)
-        session, feed = self.keeper.sessions.get(head.name), self.feeds.pop(head.number, None)
+        self.counters.taken += 1
+        self.events.tell("taken", network=head.name, epoch=head.epoch, lines=head.lines)
+        session, feed = self.programs.sessions.get(head.name), self.feeds.pop(head.number, None)
         if session and feed:
             self.take_over(session, feed, head, history)
 
@@ -306,11 +278,17 @@ class Fleet:
         head = self.heads.get(network.name)
         return head is not None and head.epoch == network.epoch and head.ended != network.ended
 
-    def lost(self, session: Session) -> None:
-        """The fence didn't let a network's rows through."""
-        head = self.heads[session.network.name]
-        if head.number in self.owned:
-            self.forget(head, self.elsewhere_but_here(head))
+    def lost(self, session: Session, fault: Exception | None = None) -> None:
+        """The fence didn't let a network's rows through; or nobody knows whether it did, or they were read from another
+        past: then the network is taken anew, and its program ends with what it had ahead: the journal tells what was
+        written."""
+        name, number = session.network.name, session.network.number
+        if fault:
+            self.events.tell("unknown", network=name, why=str(fault))
+            self.disown(name, number)
+            session.lose("wait")
+        elif self.heads[name].number in self.owned:
+            self.forget(self.heads[name], self.elsewhere_but_here(self.heads[name]))
         self.beat()
 
     def give_up(self, network: int) -> None:
@@ -321,22 +299,6 @@ class Fleet:
     def given_up(self, network: int) -> None:
         """It is halted, or another server has it, as is seen now."""
         self.taking.discard(network)
-        self.beat()
-
-    def history_of(self, network: int) -> str | None:
-        """The past of the database that rows of a network must be of, since its taking is."""
-        return self.histories.get(network)
-
-    def spoil(self, session: Session) -> None:
-        """Rows of a network were read from another past of the database: its program ends, and it is taken anew."""
-        self.unknown(session, Stop("its rows were read from a database that isn't the one any more"))
-
-    def unknown(self, session: Session, fault: Exception) -> None:
-        """The network is taken anew, and its program ends with what it had ahead: the journal tells what was
-        written."""
-        self.keeper.events.tell("unknown", network=session.network.name, why=str(fault))
-        self.disown(session.network.name, session.network.number)
-        session.lose("wait")
         self.beat()
 
     # Following, and moving
@@ -364,7 +326,7 @@ class Fleet:
         network has the same owner."""
         for network, feed in [*self.feeds.items()]:
             head = self.by_number.get(network)
-            session = self.keeper.sessions.get(head.name) if head else None
+            session = self.programs.sessions.get(head.name) if head else None
             if not head or not session or session.state != FOLLOWS:
                 feed.close()
                 del self.feeds[network]
@@ -377,29 +339,29 @@ class Fleet:
 
     def follow(self, head: Head) -> None:
         """Begins a program that is given a network's lines as they become part of the journal."""
-        session = self.keeper.session_for(head)
+        session = self.programs.session_for(head)
         if head.number in self.loading or session.state != RESTS or session.coming:
             return
         self.loading.add(head.number)
-        self.keeper.asker.ask(lambda tables: file_of(tables, head.number), lambda file: self.feed(session, head, file))
+        self.journal.asker.ask(lambda tables: file_of(tables, head.number), lambda file: self.feed(session, head, file))
 
     def feed(self, session: Session, head: Head, file: bytes) -> None:
         """Has its network file, and gives the rows that are there."""
         self.loading.discard(head.number)
         if head.number in self.owned or session.state != RESTS or session.coming or self.is_leaving:
             return
-        feed = self.keeper.asker.rows(head.number, None, session.flush, None, lambda: self.spoil(session))
+        feed = self.journal.asker.rows(head.number, None, session.flush, None, lambda fault: self.lost(session, fault))
         assert isinstance(feed, Feed)
-        if self.keeper.follow(session, head, file, feed):
+        if self.programs.follow(session, head, file, feed):
             self.feeds[head.number] = feed
-            self.keeper.events.tell("followed", network=head.name, lines=head.lines)
+            self.events.tell("followed", network=head.name, lines=head.lines)
             feed.more(head.lines)
 
     def follow_no_more(self, network: int) -> None:
         """Ends a program that followed."""
         feed = self.feeds.pop(network, None)
         head = self.by_number.get(network)
-        session = self.keeper.sessions.get(head.name) if head else None
+        session = self.programs.sessions.get(head.name) if head else None
         if feed:
             feed.close()
         if session and session.state == FOLLOWS:
@@ -417,8 +379,8 @@ class Fleet:
         """Whether it goes on until others have its networks: not if it was told to end twice, or if there are none."""
         if self.is_leaving or not self.heirs():
             return False
-        self.is_leaving, self.leaving_since = True, self.keeper.loop.now
-        self.keeper.events.tell("leaving", networks=len(self.owned))
+        self.is_leaving, self.leaving_since = True, self.loop.now
+        self.events.tell("leaving", networks=len(self.owned))
         for network in [*self.feeds]:
             self.follow_no_more(network)
         self.beat()
@@ -435,8 +397,8 @@ class Fleet:
 
     def leave_if_done(self) -> None:
         """Ends once others have all that they will take."""
-        if not self.heirs() or self.keeper.loop.now - self.leaving_since > TO_LEAVE:
-            self.keeper.stop()
+        if not self.heirs() or self.loop.now - self.leaving_since > TO_LEAVE:
+            self.stop()
 
     def close(self) -> None:
         """Gives up what it has, so that others needn't wait for the lease."""

@@ -9,8 +9,9 @@ import time
 from collections import deque
 from typing import Callable, Generic, Iterator, Protocol, TypeVar
 
+from nrm import Stop
 from nrm.journal.networks import rows_of
-from nrm.journal.stores import Tables
+from nrm.journal.stores import Store, Tables
 from nrm.server.event_log import Events
 from nrm.server.loop import READ, Loop
 
@@ -75,22 +76,10 @@ class Asker(Protocol):
         """Has the tables asked something that does no harm twice, and tells what they gave."""
 
     def rows(self, network: int, lines: int | None, wake: Callable[[], None], history: str | None,
-             spoilt: Callable[[], None]) -> RowPieces:
-        """The rows of a network, in pieces that a frame takes: so many lines, or for now all that are there. If they
-        are of another past than they must be, `spoilt` is called."""
-
-    def close(self) -> None:
-        """Asks no more."""
-
-
-class RowPieces(Protocol):
-    """Rows in pieces. An empty piece is none yet: then it is told when there is one."""
-
-    def __iter__(self) -> Iterator[bytes]:
-        """Itself."""
-
-    def __next__(self) -> bytes:
-        """The next piece."""
+             spoilt: Callable[[Exception], None]) -> Iterator[bytes]:
+        """The rows of a network, in pieces that a frame takes: so many lines, or for now all that are there. An empty
+        piece is none yet: then `wake` is called when there is one. If they are of another past than they must be,
+        `spoilt` is called with that fault."""
 
 
 class AtOnce:
@@ -104,37 +93,25 @@ class AtOnce:
         then(work(self.tables))
 
     def rows(self, network: int, lines: int | None, wake: Callable[[], None], history: str | None,
-             spoilt: Callable[[], None]) -> RowPieces:
+             spoilt: Callable[[Exception], None]) -> Iterator[bytes]:
         """The rows of a network."""
         return rows_of(self.tables, network)
-
-    def close(self) -> None:
-        """There is nothing to be ended."""
-
-
-class Keeper(Protocol):
-    """What is needed of the server."""
-    loop: Loop
-    events: Events
-
-    def fail(self, fault: Exception) -> None:
-        """Ends all."""
 
 
 class ByThread:
     """Who is asked by a thread, again and again until the journal is reached. If the database refuses, as for a right
-    that was taken away, it is asked again for some seconds, and then all ends here, so that others take over."""
+    that was taken away, it is asked again for some seconds, and then all fails here, so that others take over."""
 
-    def __init__(self, keeper: Keeper, tables: Tables) -> None:
-        self.keeper, self.faults = keeper, tables.faults
-        self.worker = Worker(keeper.loop, tables)
+    def __init__(self, loop: Loop, events: Events, fail: Callable[[Exception], None], tables: Tables) -> None:
+        self.loop, self.events, self.fail, self.faults = loop, events, fail, tables.faults
+        self.worker = Worker(loop, tables)
         self.is_over = False
 
     def ask(self, work: Callable[[Tables], Given], then: Callable[[Given], None], since: float | None = None) -> None:
         """Has the tables asked, and tells what they gave. `since` is when they first refused, if they did."""
         def tell(given: Given | None, fault: Exception | None) -> None:
             if fault and isinstance(fault, self.faults):
-                now = self.keeper.loop.now
+                now = self.loop.now
                 self.refused(fault, now if since is None else since, lambda first: self.ask(work, then, first))
             elif fault:
                 raise fault
@@ -145,12 +122,12 @@ class ByThread:
 
     def refused(self, fault: Exception, since: float, again: Callable[[float], None]) -> None:
         """Logs what the database refuses since some time, and asks again, or ends all."""
-        now = self.keeper.loop.now
-        self.keeper.events.tell("database", why=" ".join(str(fault).split()))
+        now = self.loop.now
+        self.events.tell("database", why=" ".join(str(fault).split()))
         if now - since > MOST_REFUSED:
-            self.keeper.fail(fault)
+            self.fail(fault)
         else:
-            self.keeper.loop.call_at(now + PAUSE, lambda: again(since))
+            self.loop.call_at(now + PAUSE, lambda: again(since))
 
     def answer(self, tables: Tables, work: Callable[[Tables], Given]) -> Given:
         """What the tables give, once they are reached."""
@@ -163,7 +140,7 @@ class ByThread:
                 time.sleep(PAUSE)
 
     def rows(self, network: int, lines: int | None, wake: Callable[[], None], history: str | None,
-             spoilt: Callable[[], None]) -> Feed:
+             spoilt: Callable[[Exception], None]) -> Feed:
         """The rows of a network, which are read ahead."""
         return Feed(self, network, lines, wake, history, spoilt)
 
@@ -182,7 +159,7 @@ class Feed:
     """
 
     def __init__(self, asker: ByThread, network: int, lines: int | None, wake: Callable[[], None],
-                 history: str | None, spoilt: Callable[[], None]) -> None:
+                 history: str | None, spoilt: Callable[[Exception], None]) -> None:
         self.asker, self.network, self.lines, self.wake = asker, network, lines, wake
         self.history, self.spoilt = history, spoilt
         self.pieces: deque[bytes] = deque()
@@ -239,7 +216,7 @@ class Feed:
         self.histories.add(history)
         if self.history is not None and history != self.history:
             self.close()
-            self.spoilt()
+            self.spoilt(Stop("its rows were read from a database that isn't the one any more"))
             return
         self.is_over = self.is_over or not pieces
         self.read = last
@@ -251,3 +228,20 @@ class Feed:
         """Reads no more."""
         self.is_over = True
         self.pieces.clear()
+
+
+class Journal:
+    """The journal of a server, and who asks it: `asker` what it has, and `changer` for changes that aren't rows, which
+    may have to wait until nobody else writes. `tables` are for what a file answers soon."""
+
+    def __init__(self, store: Store, loop: Loop, events: Events, fail: Callable[[Exception], None]) -> None:
+        self.store, self.tables = store, store.opened()
+        self.changer = ByThread(loop, events, fail, store.opened())
+        self.asker: Asker = AtOnce(self.tables)
+        if store.is_shared:
+            self.asker = self.changer
+
+    def close(self) -> None:
+        """Asks no more."""
+        self.changer.close()
+        self.tables.close()

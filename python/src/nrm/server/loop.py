@@ -23,7 +23,7 @@ class Loop:
         self.later: list[tuple[float, int, Callable[[], None]]] = []  # a heap, by when
         self.count = 0
         self.now = time.monotonic()
-        self.is_over = False
+        self.is_ending = self.is_over = False  # it ends once what was taken is answered, and takes nothing more
 
     def want(self, file: int, what: int, call: Call) -> None:
         """Has a file watched for what it is wanted for; for nothing, it isn't watched."""

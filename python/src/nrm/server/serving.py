@@ -12,12 +12,13 @@ from typing import Sequence
 from nrm import Stop
 from nrm.journal.stores import Opened, Store
 from nrm.server.access import Access
-from nrm.server.clients import Client, ClientLimits
+from nrm.server.clients import ClientLimits
 from nrm.server.event_log import LogForm
 from nrm.server.fleet import Sharing
-from nrm.server.hall import Answering, Hall
 from nrm.server.loop import READ
 from nrm.server.notify import Manager
+from nrm.server.programs import Answering
+from nrm.server.relay import Relay
 from nrm.server.sockets import Places, SocketPath, allow_files, tcp_socket
 from nrm.server.tokens import HERE
 from nrm.server.watched_files import Guard, Watched
@@ -67,61 +68,61 @@ class Server:
                 sharing = replace(sharing, address=address_of(listeners[0]))
             if not sharing.name:
                 sharing = replace(sharing, name=sharing.address or places.socket or "")
-            hall = Hall(self.store, self.answering, self.limits, self.every, self.log, sharing)
-            networks = hall.owning.networks()
+            relay = Relay(self.store, self.answering, self.limits, self.every, self.log, sharing)
+            networks = relay.owning.networks()
             allow_files(self.limits.clients + FILES_OF_A_PROGRAM * len(networks) + SPARE_FILES)
             for it in listeners:
                 it.listen(BACKLOG)  # before the path is there, by which others see that they may come
             listeners += [path.listener(places.rights)] if path else []
-            self.tell_of_the_beginning(hall, networks)
-            look_at_files(hall, access, context)
-            return self.serve(hall, listeners, path, context)
+            self.tell_of_the_beginning(relay, networks)
+            look_at_files(relay, access, context)
+            return self.serve(relay, listeners, path, context)
         finally:
             if path:
                 path.leave()
 
-    def serve(self, hall: Hall, listeners: Sequence[socket.socket], path: SocketPath | None,
+    def serve(self, relay: Relay, listeners: Sequence[socket.socket], path: SocketPath | None,
               context: Watched[ssl.SSLContext] | None) -> int:
         """Takes clients until it is to end. A manager of services is told when they may come, once a second that the
         loop turns, and of the end."""
         manager = Manager()
-        wake_by_signals(hall, manager)
+        wake_by_signals(relay, manager)
         most = self.limits.clients_of_ports() if path else self.limits.clients
-        doors = [Listener(hall, it, context, most) for it in listeners]
-        hall.loop.looks += [*(it.open for it in doors), lambda: manager.works(status_of(hall))]
-        manager.ready(status_of(hall))
+        doors = [Listener(relay, it, context, most) for it in listeners]
+        relay.loop.looks += [*(it.open for it in doors), lambda: manager.works(status_of(relay))]
+        manager.ready(status_of(relay))
         try:
-            run_until_it_is_over(hall)
+            run_until_it_is_over(relay)
         finally:
             manager.stops()
             if path:
                 path.unlink()
-            hall.close()
-        hall.events.tell("stopped", status=hall.status)
-        return hall.status
+            relay.close()
+        relay.events.tell("stopped", status=relay.status)
+        return relay.status
 
-    def tell_of_the_beginning(self, hall: Hall, networks: Sequence[Opened]) -> None:
+    def tell_of_the_beginning(self, relay: Relay, networks: Sequence[Opened]) -> None:
         """Tells that it has begun, and which networks aren't answered. What may keep it from that was done before, so
         that whoever can't begin tells nothing but why."""
-        answers = hall.answering.checksum
-        hall.events.tell("started", journal=self.store.place, epoch=hall.writer.epoch, networks=len(networks),
+        answers = self.answering.checksum
+        relay.events.tell("started", journal=self.store.place, epoch=relay.commits.writer.epoch, networks=len(networks),
                          program=answers)
         for it in networks:
             if it.halted:
-                hall.events.tell("halted", network=it.name, why=it.halted)
-            elif not hall.fits(it):
-                hall.events.tell("version", network=it.name, began=it.program, answers=answers)
+                relay.events.tell("halted", network=it.name, why=it.halted)
+            elif not relay.programs.fits(it):
+                relay.events.tell("version", network=it.name, began=it.program, answers=answers)
 
 
-def run_until_it_is_over(hall: Hall) -> None:
+def run_until_it_is_over(relay: Relay) -> None:
     """Has the loop go on until it is over. What is wrong with the journal ends all: clients are told, and what is wrong
     once more isn't waited for."""
-    while not hall.loop.is_over:
+    while not relay.loop.is_over:
         try:
-            hall.loop.run()
-        except hall.reader.faults as fault:
-            hall.loop.is_over = hall.fault is not None
-            hall.fail(fault)
+            relay.loop.run()
+        except relay.journal.tables.faults as fault:
+            relay.loop.is_over = relay.fault is not None
+            relay.fail(fault)
 
 
 def address_of(listener: socket.socket) -> str:
@@ -130,25 +131,26 @@ def address_of(listener: socket.socket) -> str:
     return f"[{host}]:{port}" if ":" in host else f"{host}:{port}"
 
 
-def look_at_files(hall: Hall, access: Watched[Access] | None, context: Watched[ssl.SSLContext] | None) -> None:
+def look_at_files(relay: Relay, access: Watched[Access] | None, context: Watched[ssl.SSLContext] | None) -> None:
     """Has the desks of a file come, and once a second has it seen whether that or the certificate has changed."""
     def look() -> None:
-        if access and access.has_changed(hall.events.tell):
-            hall.admit(access.said)
+        if access and access.has_changed(relay.events.tell):
+            relay.arrivals.admit(access.said)
         if context:
-            context.has_changed(hall.events.tell)
+            context.has_changed(relay.events.tell)
 
     if access:
-        hall.admit(access.said)
-    hall.loop.looks.append(look)
+        relay.arrivals.admit(access.said)
+    relay.loop.looks.append(look)
 
 
-def status_of(hall: Hall) -> str:
+def status_of(relay: Relay) -> str:
     """What a manager of services shows of the server."""
-    return f"{hall.count_of_clients()} clients, {hall.running} programs, {hall.counters.rows} lines written"
+    counters = relay.counters
+    return f"{relay.count_of_clients()} clients, {counters.running()} programs, {counters.rows} lines written"
 
 
-def wake_by_signals(hall: Hall, manager: Manager) -> None:
+def wake_by_signals(relay: Relay, manager: Manager) -> None:
     """Has the loop end at a signal, and a manager of services know it."""
     told, tells = os.pipe2(os.O_CLOEXEC | os.O_NONBLOCK)
     signal.set_wakeup_fd(tells)
@@ -158,34 +160,34 @@ def wake_by_signals(hall: Hall, manager: Manager) -> None:
     def stop(_: int) -> None:
         os.read(told, 1)
         manager.stops()
-        hall.stop()
+        relay.stop()
 
-    hall.loop.want(told, READ, stop)
+    relay.loop.want(told, READ, stop)
 
 
 class Listener:
     """A socket that listens. It takes a few clients at a time, so that a crowd of them doesn't keep others waiting."""
 
-    def __init__(self, hall: Hall, listener: socket.socket, context: Watched[ssl.SSLContext] | None,
+    def __init__(self, relay: Relay, listener: socket.socket, context: Watched[ssl.SSLContext] | None,
                  most_of_ports: int) -> None:
-        self.hall, self.listener = hall, listener
+        self.relay, self.listener = relay, listener
         is_port = listener.family != socket.AF_UNIX
         self.context = context if is_port else None
-        self.most = most_of_ports if is_port else hall.limits.clients  # that are there when it lets in no further one
+        self.most = most_of_ports if is_port else relay.limits.clients  # that are there when it lets in no further one
         listener.setblocking(False)
         listener.listen(BACKLOG)
         name = listener.getsockname()
-        hall.events.tell("listening", on=name if isinstance(name, str) else "{}:{}".format(*name))
+        relay.events.tell("listening", on=name if isinstance(name, str) else "{}:{}".format(*name))
         self.open()
 
     def open(self) -> None:
         """Takes clients from now on, unless the server is to end."""
-        self.hall.loop.want(self.listener.fileno(), 0 if self.hall.stops else READ, self.take)
+        self.relay.loop.want(self.listener.fileno(), 0 if self.relay.loop.is_ending else READ, self.take)
 
     def take(self, _: int) -> None:
         """Takes the next clients that come, or turns them away."""
-        hall = self.hall
-        if hall.stops:
+        relay = self.relay
+        if relay.loop.is_ending:
             self.open()
             return
         for _ in range(IN_A_ROUND):
@@ -194,11 +196,12 @@ class Listener:
             except (BlockingIOError, ConnectionAbortedError):
                 return
             except OSError as fault:  # as of too many open files, or no memory
-                hall.events.tell("waiting", why=fault.strerror)
-                hall.loop.forget(self.listener.fileno())  # until the next second
+                relay.events.tell("waiting", why=fault.strerror)
+                relay.loop.forget(self.listener.fileno())  # until the next second
                 return
-            if hall.count_of_clients() >= self.most:
-                hall.tell_of_turned_away(self.most)
+            if relay.count_of_clients() >= self.most:
+                relay.counters.turned_away += 1
+                relay.events.tell("turned-away", most=self.most)
                 turn_away(connection, CLOSED if not self.context else b"")
             else:
                 self.let_in(connection, address[0] if address else HERE)
@@ -207,8 +210,7 @@ class Listener:
         """Has a client at a connection, unless it is no more."""
         with contextlib.suppress(OSError):
             context = self.context.said if self.context else None
-            self.hall.clients.add(Client(self.hall, connection, address, context))
-            self.hall.counters.came += 1
+            self.relay.arrivals.let_in(connection, address, context)
 
 
 def turn_away(connection: socket.socket, why: bytes) -> None:

@@ -5,15 +5,18 @@ import heapq
 import os
 import signal
 import subprocess
-from typing import Iterator, Protocol, Sequence
+from dataclasses import replace
+from typing import Callable, Iterator, Sequence
 
 from nrm import desks_frames as frames
 from nrm.desks_frames import Frames
 from nrm.desks_program import begun
-from nrm.journal.stores import Opened
+from nrm.journal.commits import Written
+from nrm.journal.stores import Given, Opened
 from nrm.server.access import RIGHTS
 from nrm.server.clients import Client
 from nrm.server.event_log import Events
+from nrm.server.group_commit import GroupCommit, RowsToKeep
 from nrm.server.loop import READ, WRITE, Loop
 
 PIECE = 65_536  # bytes that are read at a time: a pipe has no more
@@ -26,34 +29,20 @@ RESTS, WAITS, BEGINS, ANSWERS, ENDS, FOLLOWS = range(6)
 MEMORY = b"memory"  # the reply to a line for which there wasn't enough
 
 
-class SessionKeeper(Protocol):
-    """What a session needs of its server."""
-    loop: Loop
-    events: Events
-    gather: float
-    expected: set[Session]
-
-    def begin(self, session: Session) -> None:
-        """Has a session begin when it may."""
-
-    def keep(self, session: Session, rows: bytes) -> None:
-        """Has rows written, and then says so."""
-
-    def halt(self, session: Session, row: int, why: str) -> None:
-        """Has nobody answer for a network any more."""
-
-    def over(self, session: Session) -> None:
-        """The program has ended."""
-
-    def followed_no_more(self, session: Session, why: str) -> None:
-        """A program that follows a network's journal can't go on."""
-
-
 class Session:
-    """A network, and the run of its program if it has one."""
+    """A network, and the run of its program if it has one.
 
-    def __init__(self, keeper: SessionKeeper, network: Opened) -> None:
-        self.keeper, self.network, self.state = keeper, network, RESTS
+    at_halt  is called where the program doesn't take a row, with the row and why
+    at_loss  where the network's rows weren't written, since another server has it, or it has changed; with a fault if
+             nobody knows whether they were
+    at_end   once the program has ended
+    """
+
+    def __init__(self, loop: Loop, events: Events, commits: GroupCommit, network: Opened,
+                 at_halt: Callable[[Session, int, str], None], at_loss: Callable[[Session, Exception | None], None],
+                 at_end: Callable[[Session], None]) -> None:
+        self.loop, self.events, self.commits, self.network, self.state = loop, events, commits, network, RESTS
+        self.at_halt, self.at_loss, self.at_end = at_halt, at_loss, at_end
         self.places: dict[int, Client] = {}
         self.free: list[int] = []
         self.parted: list[int] = []  # places that are free once what is held of their former clients is given
@@ -72,19 +61,20 @@ class Session:
         self.is_due = self.is_full = self.is_keeping = self.is_held = self.is_timed = False
         self.run = self.lines = self.silent = self.memory = 0
         self.told = ""
-        self.rests_since = self.begins_at = self.begun_at = keeper.loop.now
+        self.rests_since = self.begins_at = self.begun_at = loop.now
 
     # How it begins
 
-    def enter(self, client: Client, data: bytes) -> None:
-        """Gives a client a place, or has it wait until the program answers."""
+    def enter(self, client: Client, data: bytes) -> bool:
+        """Gives a client a place, or has it wait until the program answers; gives whether that is to begin now."""
         if self.state == ANSWERS and self.free:
             self.let_in(client, data)
-            return
+            return False
         self.coming.append((client, data))
-        if self.state == RESTS:
-            self.state = WAITS
-            self.keeper.begin(self)
+        if self.state != RESTS:
+            return False
+        self.state = WAITS
+        return True
 
     def start(self, words: Sequence[str], file: bytes, rows: Iterator[bytes], state: int = BEGINS) -> None:
         """Begins the program on the network file, and gives it the rows of the journal again. One that follows gets
@@ -97,14 +87,14 @@ class Session:
         self.state, self.again, self.told, self.silent, self.lost = state, rows, "", 0, None
         self.is_starved = False
         self.run += 1
-        self.begun_at = self.keeper.loop.now
+        self.begun_at = self.loop.now
         self.lines, self.free = self.network.lines, list(range(frames.PLACES))
-        self.keeper.loop.want(self.output, READ, self.hear)
+        self.loop.want(self.output, READ, self.hear)
         self.flush()
 
     def take_over(self, network: Opened) -> None:
         """A program that followed is that of the network now, which has no more lines than it counts."""
-        self.network, self.lines, self.state, self.begun_at = network, network.lines, BEGINS, self.keeper.loop.now
+        self.network, self.lines, self.state, self.begun_at = network, network.lines, BEGINS, self.loop.now
 
     def let_in(self, client: Client, data: bytes) -> None:
         """Gives a client a place, of which the program hears behind all that is held."""
@@ -112,7 +102,8 @@ class Session:
         self.places[place] = client
         self.held += frames.opened(place, *self.desk_of(client, place))
         self.hold()
-        client.let_in(self, place, data)
+        client.is_full = self.is_full
+        client.let_in(place, self.give, self.part, data)
 
     def desk_of(self, client: Client, place: int) -> tuple[str, str]:
         """Whose desk a client is at a place, and what it may do: by its token, or else all. In a network that has ended
@@ -147,7 +138,7 @@ class Session:
         """Has what is held given when the next round may begin."""
         if not self.is_held:
             self.is_held = True
-            self.keeper.loop.soon.append(self.release)
+            self.loop.soon.append(self.release)
 
     def release(self) -> None:
         """Gives the program what came, unless its rows are still being written, or were just now and of those that got
@@ -155,13 +146,13 @@ class Session:
         self.is_held = False
         if self.is_keeping or not self.held:
             return
-        if self.keeper.loop.now < self.held_until and (self.awaited or not self.has_answered):
+        if self.loop.now < self.held_until and (self.awaited or not self.has_answered):
             if not self.is_timed:
                 self.is_timed = True
-                self.keeper.loop.call_at(self.held_until, self.release_at_last)
+                self.loop.call_at(self.held_until, self.release_at_last)
             return
         if self.held_of:  # to those who only came nothing is answered
-            self.keeper.expected.add(self)
+            self.commits.expected.add(self)
         self.put(self.held)
         self.held.clear()
         self.held_of.clear()
@@ -175,6 +166,30 @@ class Session:
         self.is_timed = False
         self.release()
 
+    def keep(self, rows: bytes) -> None:
+        """Has rows written with all others that wait. Where there are none, as behind a look, it is only seen that no
+        other server has written, and that the network's rights are the same: so what is told is true of a moment after
+        the question."""
+        network = self.network
+        if self.lost:
+            return
+        given = Given(network.number, self.run, self.lines, rows, network.epoch, network.ended)
+        if not rows and self.commits.writer.is_still(given):
+            self.kept(0)
+            return
+        self.commits.keep(RowsToKeep(self, given, self.written))
+
+    def written(self, given: Given, done: Written) -> None:
+        """The commit of rows is done: they are kept, or the network is halted now, or lost."""
+        why = done.refused.get(given.network)
+        is_kept = not done.fault and given.network not in done.refused
+        if why is not None:
+            self.halted(given.before + 1, why)
+        elif self.run == given.run and not is_kept and not self.lost:
+            self.at_loss(self, done.fault)
+        elif self.run == given.run and is_kept and self.process:
+            self.kept(given.count())
+
     def kept(self, count: int) -> None:
         """The rows that it gave out are safe. Where much was held it is told so before it gets that, so that replies
         don't wait for what it does then."""
@@ -183,7 +198,7 @@ class Session:
         self.put(frames.KEPT)
         if len(self.held) > FEW_HELD:
             self.flush()
-        self.held_until = self.keeper.loop.now + self.keeper.gather
+        self.held_until = self.loop.now + self.commits.gather
         self.has_answered = False
         self.awaited.clear()
         self.release()
@@ -193,7 +208,7 @@ class Session:
         self.out += data
         if not self.is_due:
             self.is_due = True
-            self.keeper.loop.soon.append(self.flush)
+            self.loop.soon.append(self.flush)
 
     def flush(self, _: int = 0) -> None:
         """Writes what the pipe to the program takes, of the journal a piece in a round."""
@@ -214,10 +229,11 @@ class Session:
         except BrokenPipeError:
             self.out.clear()  # it has ended, as the end of its output will show
             self.again = None
-        self.keeper.loop.want(self.input, WRITE if self.out or self.again and not self.is_starved else 0, self.flush)
+        self.loop.want(self.input, WRITE if self.out or self.again and not self.is_starved else 0, self.flush)
         if self.is_full != (len(self.out) + len(self.held) > FULL):
             self.is_full = not self.is_full
             for client in self.places.values():
+                client.is_full = self.is_full
                 client.watch()
 
     # What it writes
@@ -246,24 +262,24 @@ class Session:
         """Counts the replies, of those that were sent, that tell of too little memory."""
         if count := data.split(b"\n").count(MEMORY):
             self.memory += count
-            self.keeper.events.tell("memory", network=self.network.name)
+            self.events.tell("memory", network=self.network.name)
 
     def take(self, words: Sequence[bytes], data: bytes) -> None:
         """Carries out a frame that comes less often."""
         kind = words[0]
         if kind == b"keep":
             self.is_keeping = True
-            self.keeper.expected.discard(self)
-            self.keeper.keep(self, data)
+            self.commits.expected.discard(self)
+            self.keep(data)
         elif kind == b"close":
             self.vacate(int(words[1]), words[2].decode())
         elif kind == b"ready":
             self.ready(int(words[1]))
         elif kind in (b"differs", b"no") and self.state == FOLLOWS:
-            self.keeper.followed_no_more(self, f"row {int(words[-1])} {kind.decode()}")
+            self.follow_no_more(f"row {int(words[-1])} {kind.decode()}")
         elif kind in (b"differs", b"no"):
-            self.keeper.halt(self, int(words[-1]), "isn't what the program answers" if kind == b"differs"
-                             else "is none, or isn't the next")
+            self.at_halt(self, int(words[-1]), "isn't what the program answers" if kind == b"differs"
+                         else "is none, or isn't the next")
         else:
             self.told = b" ".join(words).decode("latin-1")
 
@@ -277,19 +293,19 @@ class Session:
             heapq.heappush(self.free, place)
         client.closed(why)
         self.let_in_all()
-        self.rests_since = self.keeper.loop.now
+        self.rests_since = self.loop.now
 
     def ready(self, rows: int) -> None:
         """The journal was given again."""
         if self.state == FOLLOWS:
-            self.keeper.followed_no_more(self, f"row {rows + 1} isn't there")
+            self.follow_no_more(f"row {rows + 1} isn't there")
             return
         if rows != self.lines:
-            self.keeper.halt(self, rows + 1, f"is missing: the journal counts {self.lines} lines")
+            self.at_halt(self, rows + 1, f"is missing: the journal counts {self.lines} lines")
             self.kill()
             return
-        self.state, self.rests_since = ANSWERS, self.keeper.loop.now
-        self.keeper.events.tell("begun", network=self.network.name, lines=rows,
+        self.state, self.rests_since = ANSWERS, self.loop.now
+        self.events.tell("begun", network=self.network.name, lines=rows,
                                 seconds=self.rests_since - self.begun_at)
         self.let_in_all()
 
@@ -300,6 +316,18 @@ class Session:
         if self.state in (BEGINS, ANSWERS):
             self.state = ENDS
             self.put(frames.END)
+
+    def follow_no_more(self, why: str) -> None:
+        """A program that follows can't go on: it ends, and isn't begun again before this server takes the network,
+        which then sees what is wrong."""
+        self.events.tell("not-followed", network=self.network.name, why=why)
+        self.kill()
+
+    def halted(self, row: int, why: str) -> None:
+        """The network is halted in the journal: its program ends, and its clients are told."""
+        self.events.tell("halted", network=self.network.name, row=row, why=why)
+        self.network = replace(self.network, halted=why)
+        self.kill()
 
     def lose(self, why: str) -> None:
         """Another server has the network: the program ends with all that it had ahead, which nobody has seen, and its
@@ -327,15 +355,15 @@ class Session:
         self.parted.clear()
         self.awaited.clear()
         self.is_keeping = False
-        self.keeper.expected.discard(self)
+        self.commits.expected.discard(self)
         if was in (ENDS, FOLLOWS) or self.lost:
-            self.keeper.events.tell("ended", network=self.network.name)
+            self.events.tell("ended", network=self.network.name)
         elif not self.network.halted:
-            self.keeper.events.tell("program-ended", network=self.network.name, status=status, told=self.told or None)
-            self.begins_at = self.keeper.loop.now + 1  # so that one that fails at once doesn't begin all the time
+            self.events.tell("program-ended", network=self.network.name, status=status, told=self.told or None)
+            self.begins_at = self.loop.now + 1  # so that one that fails at once doesn't begin all the time
         self.tell_all("halted" if self.network.halted else self.lost or f"program {status}",
                       was in (ENDS, FOLLOWS) and not self.lost)
-        self.keeper.over(self)
+        self.at_end(self)
 
     def tell_all(self, why: str, are_to_wait: bool) -> None:
         """Ends the connections of its clients; those who wait go on waiting where the program was to end."""
@@ -349,8 +377,8 @@ class Session:
     def wait(self) -> int:
         """Closes the pipes, and gives the status as a shell tells it."""
         assert self.process and self.process.stdin and self.process.stdout
-        self.keeper.loop.forget(self.input)
-        self.keeper.loop.forget(self.output)
+        self.loop.forget(self.input)
+        self.loop.forget(self.output)
         self.process.stdin.close()
         self.process.stdout.close()
         try:
@@ -360,6 +388,10 @@ class Session:
             status = self.process.wait()
         self.process = None
         return status if status >= 0 else 128 - status
+
+    def is_idle(self) -> bool:
+        """Whether no line waits for a reply."""
+        return self.state == ANSWERS and not (self.lost or self.is_keeping or self.is_asked())
 
     def is_asked(self) -> bool:
         """Whether the program is to write something."""

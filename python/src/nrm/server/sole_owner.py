@@ -4,7 +4,7 @@ from __future__ import annotations
 from typing import Callable, Protocol, Sequence
 
 from nrm.journal.networks import network_in, networks_in
-from nrm.journal.stores import Fenced, Opened, Store, Tables, Writer
+from nrm.journal.stores import Fenced, Opened, Store, Tables
 from nrm.server.sessions import Session
 from nrm.server.status_text import FleetStatus, Share
 
@@ -23,9 +23,6 @@ class Owning(Protocol):
     def size(self) -> int:
         """The bytes of the journal."""
 
-    def epoch_of(self, network: int) -> int | None:
-        """The epoch by which this server has a network, if it has it."""
-
     def elsewhere(self, network: Opened) -> str | None:
         """Why a client isn't taken to a network here: `wait`, or `moved` and where it is; None if it is."""
 
@@ -36,32 +33,20 @@ class Owning(Protocol):
         """What is told of the servers that share the journal, and whose each network is; nothing of one that has it
         alone."""
 
-    def may_adopt(self) -> bool:
-        """Whether a network without lines, or one that has ended, may be answered by another program than its own."""
-
     def may_read(self) -> bool:
         """Whether the journal is reached, so that to ask it keeps nobody waiting."""
 
     def has_changed(self, network: Opened) -> bool:
         """Whether it is seen that a network isn't there any more, or has other rights than when its program began."""
 
-    def lost(self, session: Session) -> None:
-        """Another server has a network, or it has changed."""
-
-    def history_of(self, network: int) -> str | None:
-        """The past of the store that rows of a network must be of, if there may be several."""
-
-    def spoil(self, session: Session) -> None:
-        """Rows of a network were read from another past."""
+    def lost(self, session: Session, fault: Exception | None = None) -> None:
+        """Another server has a network, or it has changed; with a fault, nobody knows whether its rows were written."""
 
     def give_up(self, network: int) -> None:
         """A network is about to be halted: nobody is taken to it meanwhile."""
 
     def given_up(self, network: int) -> None:
         """It is halted, or another server has it."""
-
-    def unknown(self, session: Session, fault: Exception) -> None:
-        """Nobody knows whether the rows of a network were written."""
 
     def unfit(self) -> str:
         """Why clients are turned away, since the program isn't the one any more that this server began with."""
@@ -73,18 +58,11 @@ class Owning(Protocol):
         """Ends what stands between this server and others."""
 
 
-class SoleKeeper(Protocol):
-    """What is needed of the server."""
-
-    def fail(self, fault: Exception) -> None:
-        """Ends all."""
-
-
 class Sole:
-    """It has all networks, by the epoch of its start."""
+    """It has all networks, by the epoch of its start. `fail` ends all."""
 
-    def __init__(self, keeper: SoleKeeper, store: Store, tables: Tables, writer: Writer) -> None:
-        self.keeper, self.store, self.tables, self.writer = keeper, store, tables, writer
+    def __init__(self, store: Store, tables: Tables, epoch: int, fail: Callable[[Exception], None]) -> None:
+        self.store, self.tables, self.epoch, self.fail = store, tables, epoch, fail
 
     def networks(self) -> Sequence[Opened]:
         """All networks, as the journal has them now."""
@@ -98,10 +76,6 @@ class Sole:
         """The bytes of the journal."""
         return self.store.size()
 
-    def epoch_of(self, network: int) -> int | None:
-        """That of the start."""
-        return self.writer.epoch
-
     def elsewhere(self, network: Opened) -> str | None:
         """There is no other."""
         return None
@@ -114,10 +88,6 @@ class Sole:
         """There is no other server."""
         return None, ()
 
-    def may_adopt(self) -> bool:
-        """If its program was named."""
-        return True
-
     def may_read(self) -> bool:
         """A file is always reached."""
         return True
@@ -128,31 +98,20 @@ class Sole:
                                   [network.number, network.name]).fetchone()
         return row is None or row[0] != network.ended
 
-    def lost(self, session: Session) -> None:
+    def lost(self, session: Session, fault: Exception | None = None) -> None:
         """Another server has the journal, and so all networks; or it is this network alone that has changed: then its
-        program begins again with the next client, as the journal has it."""
-        found = network_in(self.tables, session.network.name)
-        if found and found.epoch != self.writer.epoch:
-            self.keeper.fail(Fenced(LOST))
+        program begins again with the next client, as the journal has it. What nobody knows, the next server sees."""
+        found = network_in(self.tables, session.network.name) if not fault else None
+        if fault or found and found.epoch != self.epoch:
+            self.fail(fault or Fenced(LOST))
         else:
             session.lose("wait" if found and found.number == session.network.number else "network")
-
-    def history_of(self, network: int) -> str | None:
-        """A file has one."""
-        return None
-
-    def spoil(self, session: Session) -> None:
-        """That can't be."""
 
     def give_up(self, network: int) -> None:
         """It is halted at once."""
 
     def given_up(self, network: int) -> None:
         """That shows in the journal."""
-
-    def unknown(self, session: Session, fault: Exception) -> None:
-        """The next server sees what is there."""
-        self.keeper.fail(fault)
 
     def unfit(self) -> str:
         """It is another version."""

@@ -23,7 +23,7 @@ MOST_ANSWER = 200
 FOR_GOOD = {  # by the word with which the server turns a desk away: the status, and why
     "network": (404, "the journal has no network of this name"),
     "denied": (403, "the token is for a desk of another name"),
-    "token": (401, "the server doesn't know the token, or wants one"),
+    "token": (401, "the server doesn't know the token, or requires one"),
     "sequence": (409, "the number was used for another line of this desk"),
     "old": (409, "the number is older than what the server holds of this desk"),
     "elsewhere": (409, "another connection is this desk now"),
@@ -86,7 +86,7 @@ class Connections:
         """The reply to a line of a desk; an HttpRefusal where there is none."""
         with self.entry(who) as entry:
             if not entry.lock.acquire(timeout=self.seconds):
-                raise late("other lines of this desk are before it")
+                raise late("other lines of this desk are waiting before it")
             try:
                 return self.asked(entry, who, line, sequence)
             except DeskError as fault:

@@ -19,7 +19,7 @@ from nrm.pages.page import templates
 from nrm.web.followed_journal import Followed, Following
 from nrm.web.line_accounts import Accounts
 from nrm.web.messages import HTML, HttpRefusal, HttpRequest, HttpResponse, HttpStream
-from nrm.web.network_views import NetworkRow, NetworkView, row_of, view_of
+from nrm.web.shown_networks import NetworkRow, ShownNetwork, row_of, view_of
 from nrm.web.page_events import Streams
 from nrm.web.page_words import amount, why
 from nrm.web.priced_networks import PricedNetworks
@@ -82,8 +82,8 @@ class Pages:
     def account(self, asked: HttpRequest, name: str, number: str) -> HttpResponse:
         """The page of a line's account, which is made now."""
         line = self.line_of(name, number)
-        text = self.accounts.text(name, line.number)
-        return self.page("why.html", name=name, line=line, first=text.partition("\n")[0], text=text)
+        first, _, rest = self.accounts.text(name, line.number).partition("\n")
+        return self.page("why.html", name=name, line=line, first=first, rest=rest)
 
     def networks_as_they_change(self, asked: HttpRequest) -> HttpStream:
         """The rows of the table of all networks, as they change."""
@@ -127,18 +127,18 @@ class Pages:
         self.see_that_it_can_be_made()
         self.followed(name)
         if not re.fullmatch("[1-9][0-9]{0,14}", number):
-            raise HttpRefusal(404, "line", "the number of a line is a whole one from 1")
+            raise HttpRefusal(404, "line", "the number of a line is a whole number from 1")
         with using(self.journal) as connection:
             try:
                 return line_in(connection, known(connection, name), int(number))
             except Stop as stop:
                 raise HttpRefusal(404, "line", str(stop))
 
-    def view(self, network: Followed) -> NetworkView:
+    def view(self, network: Followed) -> ShownNetwork:
         """What a network's page shows now."""
         return view_of(self.answered(network), self.looks.of(network), now())
 
-    def parts_of(self, view: NetworkView) -> dict[str, str]:
+    def parts_of(self, view: ShownNetwork) -> dict[str, str]:
         """The parts of a network's page, by their names."""
         with self.lock:
             made = self.templates.get_template("parts.html").module

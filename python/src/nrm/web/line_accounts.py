@@ -27,7 +27,7 @@ class Accounts:
         """What is printed of a line; an HttpRefusal where that is nothing, another line is being explained, or it takes
         too long."""
         if not self.is_on:
-            raise HttpRefusal(404, "off", "accounts aren't on: `--why` has them on")
+            raise HttpRefusal(404, "off", "accounts are off: `--why` enables them")
         if not self.lock.acquire(blocking=False):
             raise HttpRefusal(503, "busy", "another line is being explained", PASSES)
         try:

@@ -46,7 +46,7 @@ class HttpRequest:
         kind, _, token = given.partition(" ")
         token = token.strip()
         if kind.lower() != "bearer" or not TOKEN.fullmatch(token):
-            raise HttpRefusal(401, "token", "what stands behind `Authorization` is not `Bearer` and a token",
+            raise HttpRefusal(401, "token", "`Authorization` must have `Bearer` and a token",
                               (("WWW-Authenticate", "Bearer"),))
         return token
 

@@ -109,11 +109,11 @@ def counter(name: str, told: str, value: float) -> Any:
 
 def of_networks(networks: list[Followed]) -> Iterator[Any]:
     """What the journal tells of each network."""
-    lines = family("Counter", "nrm_lines", "Lines of the journal by what they were answered",
+    lines = family("Counter", "nrm_lines", "Lines of the journal by their replies",
                    ("network", "kind", "answer"))
     left = family("Gauge", "nrm_seats_left", "Authorised seats that aren't sold", ("network", "leg"))
     authorised = family("Gauge", "nrm_seats_authorised", "Seats that may be sold", ("network", "leg"))
-    rows = family("Gauge", "nrm_journal_lines", "Lines that the journal has of a network", ("network",))
+    rows = family("Gauge", "nrm_journal_lines", "Lines of a network in the journal", ("network",))
     halted = family("Gauge", "nrm_network_halted", "Whether nobody answers for a network", ("network",))
     revenue = family("Gauge", "nrm_revenue", "What the bookings that stand earn, in currency units", ("network",))
     withheld = family("Gauge", "nrm_withheld", "What was retained of those that were cancelled", ("network",))
@@ -136,12 +136,12 @@ def of_server(status: Status) -> Iterator[Any]:
     server, programs = status.server, status.programs
     yield InfoMetricFamily("nrm_server", "The server and its program", value={
         "version": server.version, "program": server.program, "epoch": str(server.epoch)})
-    yield gauge("nrm_server_start_time_seconds", "When the server began, in seconds since 1970",
+    yield gauge("nrm_server_start_time_seconds", "When the server started, in seconds since 1970",
                 datetime.strptime(server.started, STARTED).replace(tzinfo=timezone.utc).timestamp())
     yield gauge("nrm_journal_bytes", "The size of the journal", server.journal_bytes)
-    yield counter("nrm_time_jumps", "Jumps of the machine's clock since the server began", server.time_jumps)
+    yield counter("nrm_time_jumps", "Jumps of the machine's clock since the server started", server.time_jumps)
     yield gauge("nrm_programs", "Programs that answer now", programs.now)
-    yield counter("nrm_programs_begun", "Programs that were begun", programs.begun)
+    yield counter("nrm_programs_begun", "Programs that were started", programs.begun)
     memory = family("Counter", "nrm_memory_replies", "Replies `memory`, for which there was too little of it",
                     ("network",))
     answered = family("Gauge", "nrm_network_answered", "Whether the server may answer for a network: it isn't halted, "
@@ -171,9 +171,9 @@ def of_clients(status: Status) -> Iterator[Any]:
     """What the server tells of who is connected and who was closed."""
     clients = status.clients
     yield gauge("nrm_desks_connected", "Clients that are connected", clients.now)
-    yield gauge("nrm_desks_most", "Clients that may be", clients.most)
+    yield gauge("nrm_desks_most", "The most clients that may be connected", clients.most)
     yield counter("nrm_clients", "Clients that came", clients.ever)
-    yield counter("nrm_clients_turned_away", "Clients that came when as many were there as may be",
+    yield counter("nrm_clients_turned_away", "Clients that were turned away because there were too many",
                   clients.turned_away)
     yield counter("nrm_clients_unread", "Clients that didn't take their replies", clients.unread)
     closed = family("Counter", "nrm_clients_closed", "Clients that were cut off", ("reason",))
@@ -188,12 +188,12 @@ def of_fleet(status: Status) -> Iterator[Any]:
         return
     fleet = status.fleet
     yield gauge("nrm_fleet_servers", "Servers that this one sees, with itself", fleet.servers)
-    yield gauge("nrm_networks_owned", "Networks that this server has", fleet.owned)
+    yield gauge("nrm_networks_owned", "Networks that this server owns", fleet.owned)
     yield gauge("nrm_networks_followed", "Networks that this server follows", fleet.followed)
     yield counter("nrm_networks_taken", "Networks that this server took", fleet.taken)
     yield counter("nrm_networks_lost", "Networks that other servers took from it", fleet.lost)
     yield counter("nrm_clients_passed", "Clients that were passed on to other servers", fleet.passed)
-    owner = family("Gauge", "nrm_network_owner", "1 for the server that has a network", ("network", "owner"))
+    owner = family("Gauge", "nrm_network_owner", "1 for the server that owns a network", ("network", "owner"))
     for it in status.shares:
         owner.add_metric([it.network, it.owner], 1)
     yield owner

@@ -123,8 +123,8 @@ class Counts:
             kind, *words = row.line.split(" ")
             self.see(row, kind, words, answer)
         except (NoAnswer, ValueError, LookupError) as fault:
-            raise StrangeRow(f"row {row.number}, `{row.line}` with the reply `{row.reply}`, is none that a server "
-                             "writes") from fault
+            raise StrangeRow(f"row {row.number}, `{row.line}` with the reply `{row.reply}`, isn't one that a "
+                             "server writes") from fault
         self.lines = row.number
         self.answers[kind, IN_WORDS[type(answer)]] += 1
         if kind == "book":

@@ -26,7 +26,7 @@ class Streams:
     def begin(self, changed: Changed) -> HttpStream:
         """A stream of what a call says that has changed."""
         if not self.free.acquire(blocking=False):
-            raise HttpRefusal(503, "streams", "as many pages are kept up to date as may be", PASSES)
+            raise HttpRefusal(503, "streams", "no more pages can be kept up to date now", PASSES)
         return HttpStream(self.pieces(changed), KIND, self.free.release)
 
     def pieces(self, changed: Changed) -> Iterator[bytes]:

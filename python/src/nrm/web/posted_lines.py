@@ -31,7 +31,7 @@ class Door:
     def line(self, asked: HttpRequest, network: str, desk: str, sequence: str) -> HttpResponse:
         """Carries out a line under a number of the desk's own, or gives the reply that it had."""
         if not SEQUENCE.fullmatch(sequence):
-            raise HttpRefusal(400, "number", f"the number of a line is a whole one from 1 to {LAST_SEQUENCE}")
+            raise HttpRefusal(400, "number", f"the number of a line is a whole number from 1 to {LAST_SEQUENCE}")
         token = asked.token()
         if token is None and self.needs_token:
             raise HttpRefusal(401, "token", "each line through this door needs a token",
@@ -55,7 +55,8 @@ class Door:
         """The same, with the number in the head."""
         key = asked.head.get(KEY)
         if key is None:
-            raise HttpRefusal(400, "number", "the path says no number of the line, and there is no `Idempotency-Key`")
+            raise HttpRefusal(400, "number", "the number of the line is neither in the path nor in an "
+                                             "`Idempotency-Key`")
         if not SEQUENCE.fullmatch(key):
             raise HttpRefusal(400, "number", f"`Idempotency-Key` is a whole number from 1 to {LAST_SEQUENCE}, "
                                          "with nothing around it: the desk's own number of the line")
@@ -134,7 +135,7 @@ def line_of(body: bytes) -> str:
 def told(asked: HttpRequest, reply: bytes) -> HttpResponse:
     """What a reply is in HTTP."""
     if reply == b"bad\n":
-        raise HttpRefusal(400, "bad", "the line is none that the server knows")
+        raise HttpRefusal(400, "bad", "the server doesn't know this line")
     if reply == b"denied\n":
         raise HttpRefusal(403, "denied", "the desk has no right to this, and nothing has changed")
     if reply == b"memory\n":

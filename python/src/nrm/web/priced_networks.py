@@ -136,5 +136,5 @@ class PricedNetworks:
                 priced = (*priced, new)[-MOST_PLANS:]
             told = answer_of(self.kept.reply(who, "hindsight")) if wants_bound else None
         except NoAnswer:
-            raise HttpRefusal(502, "strange", "the server's answer is none")
+            raise HttpRefusal(502, "strange", "the server's answer can't be read")
         return PricedNetwork(priced, told if isinstance(told, Hindsight) else bound)

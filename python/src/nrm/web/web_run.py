@@ -8,7 +8,7 @@ import time
 
 from nrm.journal.choosing_store import using
 from nrm.server.notify import Manager
-from nrm.web.http_server import Listening, Site
+from nrm.web.http_listening import Listening, Site
 from nrm.web.routes import Web, WebSettings
 
 ENDS = (signal.SIGTERM, signal.SIGINT, signal.SIGHUP)

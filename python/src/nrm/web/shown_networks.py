@@ -44,7 +44,7 @@ class RefusalRow(NamedTuple):
 
 
 @dataclass(frozen=True)
-class NetworkView:
+class ShownNetwork:
     """A network's page."""
     network: Followed
     sentence: str
@@ -64,10 +64,10 @@ def row_of(it: Followed, now: int) -> NetworkRow:
     return NetworkRow(it.name, it.mode, it.lines, minutes[-1], sum(minutes), it.seen.sold, it.seen.authorised, it.state)
 
 
-def view_of(it: Followed, look: PricedNetwork, now: int) -> NetworkView:
+def view_of(it: Followed, look: PricedNetwork, now: int) -> ShownNetwork:
     """A network's page, at a time in milliseconds."""
     minutes = it.seen.a_minute(now)
-    return NetworkView(it, sentence_of(it), tuple(leg_rows(it, look)), it.seen.products,
+    return ShownNetwork(it, sentence_of(it), tuple(leg_rows(it, look)), it.seen.products,
                        tuple(map(refusal_row, it.seen.refusals)), tuple(money_of(it, look)), tuple(bars(minutes)),
                        sum(minutes), max(minutes), look.why)
 
@@ -78,8 +78,8 @@ def sentence_of(it: Followed) -> str:
     read = "" if it.fault or seen.lines >= it.lines else f" {seen.lines} of them are read so far."
     is_one = it.halted or it.is_ended or it.is_frozen
     state = "" if it.state == "open" else f" It is {it.state}." if is_one else f" {it.fault}."
-    return (f"{seen.sold} of {seen.authorised} seats are sold, over all legs, by {it.lines} lines, and what stands "
-            f"earns {amount(seen.revenue)}.{read}{state}")
+    return (f"{seen.sold} of {seen.authorised} seats are sold, over all legs, by {it.lines} lines, and the bookings "
+            f"that stand earn {amount(seen.revenue)}.{read}{state}")
 
 
 def leg_rows(it: Followed, look: PricedNetwork) -> list[LegRow]:

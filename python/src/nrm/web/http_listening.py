@@ -234,7 +234,7 @@ class Site(ThreadingHTTPServer):
         one to the browser, and the page may read what is answered."""
         host = asked.head.get("host", "")
         if not is_own_name(host, (*self.listening.hosts, address)):
-            raise HttpRefusal(421, "host", "nothing is here by the name of this `Host`: `--host` gives a name")
+            raise HttpRefusal(421, "host", "this server doesn't have the name in `Host`: `--host` adds a name")
         origin = asked.head.get("origin")
         if origin is not None and origin.partition("://")[2].lower() != host.lower():
             raise HttpRefusal(403, "origin", "the page of another site asked for this")
