@@ -7,8 +7,11 @@
 Of claims.md it checks each file of definitions or proofs (`nrm_lp/specs/Ends`, or in a list `nrm_lp/specs`: `Ends`,
 `Laws`), each public function (`nrm_lp::weakly_dual`), each clause that is named with a function (`nrm_cli::run`, clause
 `ends`, or clause `ends` of `run` and of `run_kept`), and that a file has the names that stand behind it. claims.md must
-name each file of definitions that a public contract reaches, and beside each claim what carries it. In crates.txt no crate may depend on one of a higher layer, the drawing of map.md is compared with its layers, and each
-layer must have a paragraph there that names its crates; crates whose names end in `_tests` alone have tests. README.md
+name each file of definitions that a public contract reaches, and beside each claim what carries it. In crates.txt no
+crate may depend on one of a higher layer, the drawing of map.md is compared with its layers, and each layer must have a
+paragraph there that names its crates; crates whose names end in `_tests` alone have tests. A word of the lexicon in
+glossary.md may stand in the names of files and types of those rooms of the package and those crates that its row names:
+elsewhere it would have a second meaning. README.md
 must have a line for each layer, from above, and at most 120 lines and 1,100 words. Of CONTRIBUTING.md each path must be
 there (`nrm_stream/src/command.rt`, `docs/commands.md`), and each clause that it quotes must be a line of the code. Each
 link of a page must lead to a file and to a heading in it, and to none that a release leaves out. Each page must
@@ -31,6 +34,20 @@ LIST = r"\s*((?:`[\w-]+`(?:,\s+|\s+and\s+)?)+)"
 MOST_LINES, MOST_WORDS = 120, 1100  # of the first page
 TOP_CALLS = {"run": "nrm_cli", "run_kept": "nrm_kept_cli", "run_why": "nrm_why_cli", "run_desks": "nrm_desks_cli"}
 SHELVES = ("analyst", "operator", "auditor", "developer")
+TYPES = {  # how a file declares types, by its ending
+    ".py": r"^ *class (\w+)", ".antt": r"^ *(?:abbrev |pub )*(?:record|data) ([\w-]+)",
+    ".rt": r"^ *(?:pub(?:\(\w+\))? |ghost )*(?:struct|enum|trait|type) (\w+)"}
+PARTS = re.compile(r"[A-Z]+(?![a-z])|[A-Z]?[a-z]+")  # of a name
+OTHERWISE = (  # names in a room or crate that have a word of the lexicon with another meaning, and this meaning
+    ("server", "Places", "where a server listens"),
+    ("nrm_dual", "Place place", "what a line of a certificate is of: the value, a product or a leg"),
+    ("nrm_keeper_tests", "Place", "a folder for a test"),
+    ("nrm_row", "in_place", "in place, as the field says it"),
+    ("nrm_dlp", "Programs programs", "the linear program, as the crate's name says"),
+    ("nrm_lp", "Program ProgramValue program", "the linear program, as the crate's name says"),
+    ("nrm_samples", "Programs programs", "linear programs, for the tests of those crates"),
+    ("nrm_hub", "Seats", "the place of a client"))
+EXCEPTED = {(room, name) for room, names, _ in OTHERWISE for name in names.split()}
 NOT_RELEASED = re.compile(r"\]\(((?:\.\./)*(?:crates|tests|tools|\.ci|python/tests)/[^)]*)\)")
 
 
@@ -177,16 +194,22 @@ def drawn(text):
     return re.sub(r"(?:^ {5,}.*  nrm.*\n)+", lambda _: "".join(lines), text, count=1, flags=re.M)
 
 
-def look_at_layers(document, names):
+def look_at_edges(document, names, layers):
     """Whether each crate depends on crates of its own layer and of lower ones alone, and stands behind them."""
-    layer_of = {crate: layer for layer, crates in listed_layers().items() for crate in crates}
+    layer_of = {crate: layer for layer, crates in layers.items() for crate in crates}
     behind = set()
-    for crate, below in listed_crates().items():
+    for crate, below in ((crate, below) for crates in layers.values() for crate, below in crates.items()):
         for it in below:
             if it in layer_of:
                 names.look(document, f"{it} ({layer_of[it]}), on which {crate} ({layer_of[crate]}) depends, above it in "
                            "the file", it in behind)
         behind.add(crate)
+
+
+def look_at_layers(document, names):
+    """Whether no crate depends on one of a higher layer, and each folder of crates has a line."""
+    look_at_edges(document, names, listed_layers())
+    behind = set(listed_crates())
     folders = {path.parent.name for path in Path(TOP, "crates").glob("*/src")}
     names.look(document, f"a layer and a line for each folder of crates: {sorted(folders ^ behind)}", folders == behind)
 
@@ -226,6 +249,63 @@ def look_at_shelves(names):
         link = page.relative_to(above.parent).as_posix()
         if above.exists() and above != page:
             names.look(above.relative_to(TOP).as_posix(), f"a link to {link}", f"]({link}" in above.read_text())
+
+
+def lexicon_in(text):
+    """The words of the house, and in which rooms and crates each may name files and types."""
+    rows = re.findall(r"^\| ([a-z ]+?) +\| .* \|([^|]*)\|$", text.partition("\n## The house's words\n")[2], re.M)
+    return {word: list(listed_crates()) if rooms.strip() == "each crate" else ticked(rooms) for word, rooms in rows}
+
+
+def given_names():
+    """The name of each file and type of the package and of the crates: its room or crate, the name, and its path."""
+    package, crates = Path(TOP, "python", "src", "nrm"), Path(TOP, "crates")
+    paths = [(path, path.relative_to(package.parent).parts[:-1][-1]) for path in sorted(package.rglob("*.py"))]
+    paths += [(path, path.relative_to(crates).parts[0]) for below in ("src", "specs")
+              for path in sorted(crates.glob(f"*/{below}/**/*")) if path.suffix in TYPES]
+    for path, room in paths:
+        for name in (path.stem, *re.findall(TYPES[path.suffix], path.read_text(encoding="utf-8"), re.M)):
+            yield room, name, path.relative_to(TOP).as_posix()
+
+
+def look_for_second_meanings(document, names, lexicon, given):
+    """Whether the words of the lexicon are in the names of their own rooms and crates alone, but for what is excepted."""
+    needed = set()
+    for room, name, path in given:
+        parts = [it.lower() for it in PARTS.findall(name)]
+        for word, rooms in lexicon.items():
+            size = word.count(" ") + 1
+            found = [" ".join(parts[at:at + size]) for at in range(len(parts) - size + 1)]
+            if room not in rooms and (word in found or f"{word}s" in found):
+                needed.add((room, name))
+                where = ", ".join(rooms[:9]) or "no file or type"
+                names.look(path, f"another name than {name}: {document} has the word {word} for {where} alone",
+                           (room, name) in EXCEPTED)
+    for room, name in sorted(EXCEPTED):
+        names.look("tests/named.py", f"a need to except {name} in {room}", (room, name) in needed)
+    for word, rooms in lexicon.items():
+        for room in rooms:
+            names.look(document, f"the room or crate {room}, which the row of {word} names",
+                       any(Path(TOP, it).is_dir() for it in (f"crates/{room}", f"python/src/nrm/{room}")))
+
+
+def look_at_planted(names):
+    """Whether the checks of edges and of second meanings see what they are for."""
+    planted = Names()
+    look_at_edges("crates.txt", planted, {"base": {"nrm_low": ["nrm_high"]}, "above": {"nrm_high": ["nrm_low"]}})
+    names.look("tests/named.py", "the refusal of a planted edge upward", planted.missing == [
+        "crates.txt: nrm_high (above), on which nrm_low (base) depends, above it in the file"])
+    lexicon = lexicon_in(read("docs/glossary.md"))
+    for room, name, is_refused in (
+            ("server", "SeatOfClient", True), ("records", "door", True), ("web", "Door", False), ("web", "page_views", True),
+            ("nrm_control", "hubs", True), ("nrm_hub", "Hub", False), ("nrm_edge", "TopCall", True),
+            ("nrm_lp", "Program", False), ("nrm_lp", "ProgramFile", True), ("legs", "looking", False),
+            ("nrm_cli", "laws", False)):
+        planted = Names()
+        look_for_second_meanings("docs/glossary.md", planted, lexicon, [(room, name, "planted")])
+        refused = [it for it in planted.missing if it.startswith("planted: ")]
+        names.look("tests/named.py", f"the {'refusal' if is_refused else 'right'} of a planted {name} in {room}",
+                   bool(refused) == is_refused)
 
 
 def look_for_tests(document, names):
@@ -274,6 +354,8 @@ def main():
     look_at_layers("crates.txt", names)
     look_in_map("docs/developer/map.md", names)
     look_for_tests("docs/developer/map.md", names)
+    look_for_second_meanings("docs/glossary.md", names, lexicon_in(read("docs/glossary.md")), given_names())
+    look_at_planted(names)
     look_at_first_page("README.md", names)
     look_for_paths("CONTRIBUTING.md", names)
     look_for_clauses("CONTRIBUTING.md", names)

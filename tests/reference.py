@@ -737,7 +737,8 @@ class Teller:
         text = line_of(b"line", self.lines + 1, *words) + self.reasons(*command)
         reply = self.session.reply(line)
         self.pass_on(command, reply)
-        return text + (b"" if command[0] in ("leg", "plan") else b"answer " + reply)
+        told = command[0] in ("leg", "plan") and reply != b"unknown\n"
+        return text + (b"" if told else b"answer " + reply)
 
     def reasons(self, kind, *rest):
         """What a line is answered for."""

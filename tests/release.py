@@ -118,7 +118,7 @@ def its_commands_run_its_own_program(release):
     done = subprocess.run([release.made / "nrm-tools", "resume", release.made / "examples" / "log" / "network.csv",
                            "first", stream, kept],
                           env={"PATH": SYSTEM}, cwd=release.folder, capture_output=True, text=True, timeout=SECONDS)
-    want((done.stdout, done.returncode), ("go on at line 2; 5 bytes of whole replies stand before it\n", 0),
+    want((done.stdout, done.returncode), ("continue at line 2; 5 bytes of whole replies come before it\n", 0),
          done.stderr)
 
 

@@ -397,7 +397,7 @@ class Cut:
 
     def told(self, kept):
         count, size = self.place(kept)
-        return f"go on at line {count + 1}; {size} bytes of whole replies stand before it\n".encode()
+        return f"continue at line {count + 1}; {size} bytes of whole replies come before it\n".encode()
 
     def goes_on(self, kept):
         """Where the rest of the stream is given, the rest of the replies comes."""

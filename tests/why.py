@@ -225,7 +225,7 @@ def cancellations(place):
 def other_lines(place):
     lines = ["book NONE 1", "reoptimise 3", "leg AB", "leg NONE", "plan", "hindsight", "boook", "", "reoptimise 1"]
     told = [["line 1 book NONE 1", "answer unknown"], ["line 2 reoptimise 3", "answer unknown"], ["line 3 leg AB"],
-            ["line 4 leg NONE"], ["line 5 plan"], ["line 6 hindsight", "answer hindsight 0/1 revenue 0 withheld 0"],
+            ["line 4 leg NONE", "answer unknown"], ["line 5 plan"], ["line 6 hindsight", "answer hindsight 0/1 revenue 0 withheld 0"],
             ["line 7 bad", "answer bad"], ["line 8 bad", "answer bad"],
             ["line 9 reoptimise 1", "left AB 3", "left BC 2", "answer optimised none"]]
     for number, wanted in enumerate(told, 1):
