@@ -4,6 +4,8 @@
     tests/definitions.py            checks: a file outside specs/Inner that no public contract reaches, and one inside
                                     it that one does, is a fault (status 1)
     tests/definitions.py --list     prints the files to read, layer by layer from below, each with its first line
+    tests/definitions.py --of CALL  prints how many lines of each crate the clauses of one call reach, such as
+                                    `nrm_desks_cli::run_desks`, with comments, and without empty lines and imports
 
 A public contract is a clause of a function, method or trait that leaves its crate, or a member of an `impl` of such a
 type. A clause reaches the files that its names come from, and each of those the files that it uses in its turn.
@@ -117,23 +119,59 @@ def public_text(crate):
             yield uses, re.sub(r"//.*", "", public)
 
 
-def main():
-    files, order = OrderedDict(), crate_order()
-    for crate in order:
-        files.update(spec_files(crate))
+def named_in(uses, text, files):
+    """The modules of which a text has a name."""
+    found = set()
+    for module, names in uses:
+        forms = [r"(?<![\w.])" + re.escape(it) + r"(?!\w)" for it in names if it]
+        if module in files and any(re.search(it, text) for it in forms):
+            found.add(module)
+    return found
+
+
+def with_those_below(modules, files):
+    """These modules, and those that they use in their turn."""
     below = {module: {m for m, _ in imports(read(path), "use") if m in files} for module, path in files.items()}
-    reached = set()
-    for crate in order:
-        for uses, public in public_text(crate):
-            for module, names in uses:
-                forms = [r"(?<![\w.])" + re.escape(it) + r"(?!\w)" for it in names if it]
-                if module in files and any(re.search(it, public) for it in forms):
-                    reached.add(module)
-    queue = list(reached)
+    reached, queue = set(modules), list(modules)
     while queue:
         for module in below[queue.pop()] - reached:
             reached.add(module)
             queue.append(module)
+    return reached
+
+
+def lines_of(call, files):
+    """How many lines of each crate the clauses of a call reach, such as `nrm_desks_cli::run_desks`."""
+    crate, _, name = call.partition("::")
+    found = set()
+    for uses, public in public_text(crate):
+        for item in blocks(public):
+            if re.search(r"^pub (?:const )?fn " + re.escape(name) + r"\b", item, re.M):
+                found |= named_in(uses, item, files)
+    lines = OrderedDict()
+    for module in files:
+        if module in with_those_below(found, files):
+            kept = [line for line in read(files[module]).split("\n") if line.strip() and not line.startswith("use ")]
+            lines[module.partition(".")[0]] = lines.get(module.partition(".")[0], 0) + len(kept)
+    return lines
+
+
+def main():
+    files, order = OrderedDict(), crate_order()
+    for crate in order:
+        files.update(spec_files(crate))
+    if sys.argv[1:2] == ["--of"] and len(sys.argv) == 3:
+        lines = lines_of(sys.argv[2], files)
+        for crate, count in lines.items():
+            print(f"{crate}: {count}")
+        if not lines:
+            print(f"tests/definitions.py: no public call {sys.argv[2]} has clauses; say it as CRATE::NAME", file=sys.stderr)
+        return 0 if lines else 2
+    reached = set()
+    for crate in order:
+        for uses, public in public_text(crate):
+            reached |= named_in(uses, public, files)
+    reached = with_those_below(reached, files)
     if "--list" in sys.argv[1:]:
         for module in files:
             if module in reached:

@@ -1,6 +1,5 @@
 -- How a call ends, out of how its parts went.
-use Rattle.std.proofs.Common.{ℕ, ◌≡◌, ◌≢◌, false, List, Option, Some, Ok, Err, refl, sym, subst, inl, inr}
-use Rattle.std.specs.Prelude.{⊤}
+use Rattle.std.proofs.Common.{ℕ, ◌≡◌, ◌≢◌, List, Option, Some, Ok, Err, refl, sym, subst, inl, inr}
 use Rattle.nrm_edge.specs.Causes.{Rose}
 use Rattle.nrm_model.specs.Network.{NetworkValue}
 use Rattle.nrm_simplex.specs.declared.fault.SolveFault.{SolveFault}
@@ -15,12 +14,13 @@ use Rattle.nrm_common_cli.specs.declared.network_file.NoNetwork.TheVariants as n
 use Rattle.nrm_session.specs.Serving.{Streams}
 use Rattle.nrm_hub.specs.declared.again.AgainFault.{AgainFault}
 use Rattle.nrm_hub.specs.declared.again.AgainFault.TheVariants as again
+use Rattle.nrm_hub.specs.declared.phase.Phase.TheVariants as phase
 use Rattle.nrm_common_cli.specs.Puts.{PutsIfSome, PutsLine, status_for, unplanned_line}
 use Rattle.nrm_desks_cli.specs.Ends.{Begins, Ends, Ran, Tells, file_fault, overflow, refused, streams_at, usage}
 use Rattle.nrm_desks_cli.specs.Inner.Ending.{EndsServing}
 use Rattle.nrm_desks_cli.specs.Inner.Serving.{ServesTo}
 use Rattle.nrm_desks_cli.specs.Jobs.{DesksJob}
-use Rattle.nrm_desks_cli.specs.Served.{HasEnded, HasNoRow, IsNoFrame, NothingIsLeft, Served, ServedCut, is_ready}
+use Rattle.nrm_desks_cli.specs.Served.{HasEnded, HasNoRow, IsNoFrame, IsTooLong, NothingIsLeft, Served, ServedCut}
 use Rattle.nrm_desks_cli.specs.declared.serving.ServeEnd.{ServeEnd}
 use Rattle.nrm_desks_cli.specs.declared.serving.ServeEnd.TheVariants as end
 use Rattle.nrm_desks_cli.specs.declared.status.DesksStatus.{DesksStatus}
@@ -72,24 +72,24 @@ module _ (asked : Option DesksJob) (before : Outside) (begins : Begins asked bef
 
   -- rows that can't be given again
   fault-ends : (why : AgainFault) (result : DesksStatus) (served : Served begins.control (streams_at before) (streams_at found))
-      → is_ready served.world.outputs ≡ false → HasNoRow served why → found.sink_faults ≡ before.sink_faults
+      → HasNoRow served why → found.sink_faults ≡ before.sink_faults
       → EndsServing (end.NotAgain why) found.held after.held found.sink_faults after.sink_faults result → Ends asked before after result
-  fault-ends (again.NoRow row) result served fresh so sank (inl (is, wrote, same)) =
+  fault-ends (again.NoRow row) result served so sank (inl (is, wrote, same)) =
       rw is (record { found = found; row = row; ran = record { begins = begins; served = served; so = so }; wrote = wrote; left = coming })
-  fault-ends (again.NoRow row) result served fresh so sank (inr (is, front, rose)) =
+  fault-ends (again.NoRow row) result served so sank (inr (is, front, rose)) =
       rw is (
         subst (λ (k : ℕ). Rose k after.sink_faults) sank rose,
         inr (inr (inl (record { found = found; row = row; ran = record { begins = begins; served = served; so = so }; wrote = front; left = coming }))),
       )
-  fault-ends (again.Differs row) result served fresh so sank (inl (is, wrote, same)) =
+  fault-ends (again.Differs row) result served so sank (inl (is, wrote, same)) =
       rw is (record { found = found; row = row; ran = record { begins = begins; served = served; so = so }; wrote = wrote; left = coming })
-  fault-ends (again.Differs row) result served fresh so sank (inr (is, front, rose)) =
+  fault-ends (again.Differs row) result served so sank (inr (is, front, rose)) =
       rw is (
         subst (λ (k : ℕ). Rose k after.sink_faults) sank rose,
         inr (inr (inr (record { found = found; row = row; ran = record { begins = begins; served = served; so = so }; wrote = front; left = coming }))),
       )
-  fault-ends again.NoMemory result served fresh so sank (is, held, faults) =
-      rw is (inr (ran (λ at start (s : Served start (streams_at before) at). is_ready s.world.outputs ≡ false) held faults served fresh))
+  fault-ends again.NoMemory result served so sank (is, held, faults) =
+      rw is (inr (ran (λ at start (s : Served start (streams_at before) at). s.world.hub.phase ≡ phase.Replaying) held faults served so.0))
 
   pub serving-ends : (e : ServeEnd) (result : DesksStatus) → ServesTo begins.control (streams_at before) (streams_at found) e
       → (e ≢ end.WriteFault → found.sink_faults ≡ before.sink_faults)
@@ -106,12 +106,12 @@ module _ (asked : Option DesksJob) (before : Outside) (begins : Begins asked bef
         subst (λ (k : ℕ). Rose before.sink_faults k) (sym faults) rose,
         inl (record { begins = begins; served = subst (λ (at : Streams). ServedCut begins.control (streams_at before) at) (same-streams held faults) served }),
       )
-  serving-ends end.TooLong result served sank (is, held, faults) =
-      rw is (ran (λ at start (s : Served start (streams_at before) at). ⊤) held faults served tt)
+  serving-ends end.TooLong result (served, so) sank (is, held, faults) =
+      rw is (ran (λ at start (s : Served start (streams_at before) at). IsTooLong s) held faults served so)
   serving-ends end.NoFrame result (served, so) sank (is, held, faults) =
       rw is (ran (λ at start (s : Served start (streams_at before) at). IsNoFrame s) held faults served so)
-  serving-ends (end.NotAgain why) result (served, fresh, so) sank ends =
-      fault-ends why result served fresh so (sank (λ (no : end.NotAgain why ≡ end.WriteFault). cc)) ends
+  serving-ends (end.NotAgain why) result (served, so) sank ends =
+      fault-ends why result served so (sank (λ (no : end.NotAgain why ≡ end.WriteFault). cc)) ends
 
 -- an end that is no failed output was none before
 pub unfailed-end : (e : ServeEnd) (held held' : Option (List ℕ)) (before now : ℕ) (result : DesksStatus) → EndsServing e held held' before now result

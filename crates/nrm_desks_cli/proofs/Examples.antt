@@ -1,17 +1,15 @@
 -- Statuses, words and frames that may not come, which a reader can check by hand.
-use Rattle.std.proofs.Common.{◌≡◌, [], ◌∷◌, false, true, inl, inr, refl}
+use Rattle.std.proofs.Common.{◌≡◌, [], ◌∷◌, inl, inr, refl}
 use Rattle.std.specs.Prelude.{codes, Some, None}
 use Rattle.nrm_control.specs.Standing.{ControlValue}
 use Rattle.nrm_frames.specs.Headers.{no_rights}
-use Rattle.nrm_frames.specs.Outgoing.{close, differs, keep, no_row, ready, send}
 use Rattle.nrm_frames.specs.declared.header.Header.TheVariants as header
-use Rattle.nrm_frames.specs.declared.why.Why.TheVariants as why
 use Rattle.nrm_model.specs.declared.mode.Mode.TheVariants as mode
-use Rattle.nrm_hub.specs.World.{World, beginning}
+use Rattle.nrm_hub.specs.Hub.{HubValue, new_hub}
 use Rattle.nrm_hub.specs.declared.phase.Phase.TheVariants as phase
 use Rattle.nrm_desks_cli.specs.Jobs.{desks_job_of, usage_line}
 use Rattle.nrm_desks_cli.specs.Numbers.{number_of}
-use Rattle.nrm_desks_cli.specs.Served.{MayNotCome, is_ready}
+use Rattle.nrm_desks_cli.specs.Served.{MayNotCome}
 use Rattle.nrm_desks_cli.specs.declared.status.DesksStatus.TheVariants as status
 
 -- ---- the exit statuses
@@ -67,43 +65,33 @@ few_words = refl
 many_words : desks_job_of (codes "first" ∷ codes "net.csv" ∷ codes "1" ∷ []) ≡ None
 many_words = refl
 
--- ---- whether all rows were given again
-nothing_written : is_ready [] ≡ false
-nothing_written = refl
-
-readied : is_ready (ready 3 ∷ keep [] ∷ []) ≡ true
-readied = refl
-
-only_others : is_ready (keep [] ∷ send 0 3 [] ∷ close 0 why.Gone ∷ no_row 1 ∷ differs 1 ∷ []) ≡ false
-only_others = refl
-
 -- ---- frames that may not come
 module _ (control : ControlValue) where
   -- all rows were given again, and nobody was opened
-  at_ready : World
-  at_ready = record (beginning control) { outputs = ready 0 ∷ [] }
+  at_ready : HubValue
+  at_ready = record (new_hub control) { phase = phase.Settled }
 
-  piece_before_ready : MayNotCome (beginning control) (header.Came 0 5)
+  piece_before_ready : MayNotCome (new_hub control) (header.Came 0 5)
   piece_before_ready = refl
 
-  open_before_ready : MayNotCome (beginning control) (header.Open 0 (codes "DESK-A") no_rights)
+  open_before_ready : MayNotCome (new_hub control) (header.Open 0 (codes "DESK-A") no_rights)
   open_before_ready = inl refl
 
   rows_behind_ready : MayNotCome at_ready (header.Again 5)
   unfolding at_ready
-  rows_behind_ready = refl
+  rows_behind_ready = λ (never : phase.Settled ≡ phase.Replaying). cc
 
   kept_unawaited : MayNotCome at_ready header.Kept
   unfolding at_ready
-  kept_unawaited = inr (λ (never : phase.Settled ≡ phase.Asked). cc)
+  kept_unawaited = λ (never : phase.Settled ≡ phase.Asked). cc
 
-  rows_may_come : MayNotCome (beginning control) (header.Again 5) → ⊥
-  rows_may_come is = let never : false ≡ true = is in cc
+  rows_may_come : MayNotCome (new_hub control) (header.Again 5) → ⊥
+  rows_may_come is = is refl
 
   open_may_come : MayNotCome at_ready (header.Open 7 (codes "DESK-A") no_rights) → ⊥
   unfolding at_ready
-  open_may_come (inl is) = let never : true ≡ false = is in cc
+  open_may_come (inl is) = let never : phase.Settled ≡ phase.Replaying = is in cc
   open_may_come (inr taken) = taken refl
 
-end_may_come : (w : World) → MayNotCome w header.End → ⊥
-end_may_come w never = never
+end_may_come : (hub : HubValue) → MayNotCome hub header.End → ⊥
+end_may_come hub never = never

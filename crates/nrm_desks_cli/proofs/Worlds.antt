@@ -1,7 +1,7 @@
 -- How a world that was served goes on.
-use Rattle.std.proofs.Common.{ℕ, ◌≡◌, ◌∙◌, ◌+◌, Bool, true, false, List, [], ◌∷◌, ◌++◌, length, take, Option, refl, sym, ap, subst, inl, inr}
+use Rattle.std.proofs.Common.{ℕ, ◌≡◌, ◌∙◌, ◌+◌, List, [], ◌∷◌, ◌++◌, length, take, Option, refl, sym, ap, subst, inl, inr}
 use Rattle.std.proofs.Common.{append-nil, arith, length-append}
-use Rattle.std.specs.Prelude.{flat_map, if◌then◌else◌}
+use Rattle.std.specs.Prelude.{flat_map}
 use Rattle.std.specs.Io.KnownBytes.{Appends, Consumes, Keeps}
 use Rattle.std.proofs.KnownBytes.{Appends-kept, Appends-nil, Appends-trans, Consumes-nil, Consumes-trans, Keeps-refl}
 use Rattle.std.proofs.lemmas.Grind.{flat_map-append}
@@ -11,16 +11,15 @@ use Rattle.nrm_edge.specs.Pieces.{AppendsCut, AppendsFront}
 use Rattle.nrm_frames.proofs.Fronts.{pieces}
 use Rattle.nrm_frames.specs.Cutting.{cut_of, whole}
 use Rattle.nrm_frames.specs.Frames.{AreFrames, Frame}
-use Rattle.nrm_frames.specs.Outgoing.{Output, close, differs, keep, no_row, output_text, ready, send}
+use Rattle.nrm_frames.specs.Outgoing.{Output, output_text}
 use Rattle.nrm_frames.specs.declared.header.Header.{Header}
 use Rattle.nrm_frames.specs.declared.header.Header.TheVariants as header
 use Rattle.nrm_session.specs.Serving.{Streams}
-use Rattle.nrm_hub.specs.Goes.{Goes, GoesTo, Puts}
+use Rattle.nrm_hub.specs.Goes.{Goes, GoesTo, Puts, PutsCut}
 use Rattle.nrm_hub.specs.Hub.{HubValue, new_hub}
 use Rattle.nrm_hub.specs.World.{Comes, World, beginning, frame, here, then as and_then}
-use Rattle.nrm_desks_cli.specs.Inner.Handling.{GoesOn, GoesOnCut, IsFresh}
 use Rattle.nrm_desks_cli.specs.Inner.Serving.{PutsOrCut, Stands, at_sink}
-use Rattle.nrm_desks_cli.specs.Served.{HasEnded, Served, ServedCut, is_ready}
+use Rattle.nrm_desks_cli.specs.Served.{HasEnded, IsOpen, Served, ServedCut}
 
 -- ---- one after another
 comes-then : (a b c : World) → Comes a b → Comes b c → Comes a c
@@ -33,16 +32,6 @@ frames-more : (bytes : List ℕ) (frames : List Frame) (rest : List ℕ) (h : He
 frames-more bytes [] rest h payload behind are cut = (behind, subst (λ (b : List ℕ). cut_of b ≡ whole h payload behind) are cut, refl)
 frames-more bytes (f ∷ frames) rest h payload behind (mid, first, others) cut = (mid, first, frames-more mid frames rest h payload behind others cut)
 
--- whether it was written that all was given again, in two lists
-pub ready-append : (a b : List Output) → is_ready (a ++ b) ≡ (if is_ready a then true else is_ready b)
-ready-append [] b = refl
-ready-append (ready rows ∷ more) b = refl
-ready-append (keep rows ∷ more) b = ready-append more b
-ready-append (send place used bytes ∷ more) b = ready-append more b
-ready-append (close place reason ∷ more) b = ready-append more b
-ready-append (no_row row ∷ more) b = ready-append more b
-ready-append (differs row ∷ more) b = ready-append more b
-
 -- a piece of which a front was written, behind what was written
 front-then : (a b c : Option (List ℕ)) (bs cs : List ℕ) → Appends a b bs → AppendsFront b c cs → AppendsFront a c (bs ++ cs)
 front-then a b c bs cs first front = record {
@@ -53,7 +42,7 @@ front-then a b c bs cs first front = record {
 
 -- ---- from a world in which the hub stands
 module _ (start : ControlValue) (before at : Streams) (held held' : Option (List ℕ)) (faults faults' : ℕ) (old new : HubValue) (waiting : List ℕ)
-    (was : Bool) (stands : Stands start before (at_sink at held faults) old waiting was) where
+    (taken : ℕ) (stands : Stands start before (at_sink at held faults) old waiting taken) where
   abbrev world : World
   world = stands.served.world
 
@@ -73,107 +62,82 @@ module _ (start : ControlValue) (before at : Streams) (held held' : Option (List
       (subst (λ (b : List ℕ). cut_of b ≡ whole h payload rest) (sym stands.waits) cut))
 
   -- it was carried out
-  record Went (now : Bool) (h : Header) (payload rest : List ℕ) : Type 0 where
+  record Went (h : Header) (payload rest : List ℕ) : Type 0 where
     served : Served start before (at_sink at held' faults')
     hub_is : served.world.hub ≡ new
     waits : served.rest ≡ rest
-    ready_is : is_ready served.world.outputs ≡ now
+    count : length served.taken ≡ taken
     came : served.world.inputs ≡ world.inputs ++ frame h payload ∷ []
 
-  frame-went : (now : Bool) (h : Header) (payload rest : List ℕ) → cut_of waiting ≡ whole h payload rest
-      → GoesOn old new was now (frame h payload ∷ []) held held' → Went now h payload rest
-  frame-went now h payload rest cut goes =
-      let to : GoesTo world new (frame h payload ∷ []) goes.outputs = goes-to _ _ goes.goes in
+  frame-went : (h : Header) (payload rest : List ℕ) → cut_of waiting ≡ whole h payload rest → Puts old new (frame h payload ∷ []) held held'
+      → Went h payload rest
+  frame-went h payload rest cut puts =
+      let to : GoesTo world new (frame h payload ∷ []) puts.outputs = goes-to _ _ puts.goes in
       record {
         served = record {
           world = to.world;
           comes = comes-then _ _ _ stands.served.comes to.comes;
           taken = stands.served.taken;
           rest = rest;
-          frames = frame-comes h payload rest goes.outputs to cut;
+          frames = frame-comes h payload rest puts.outputs to cut;
           consumed = stands.served.consumed;
-          written = subst (λ (xs : List ℕ). Appends before.held held' xs) (sym (text-then goes.outputs to.world to.written))
-              (Appends-trans before.held held held' _ _ stands.served.written goes.written);
+          written = subst (λ (xs : List ℕ). Appends before.held held' xs) (sym (text-then puts.outputs to.world to.written))
+              (Appends-trans before.held held held' _ _ stands.served.written puts.written);
         };
         hub_is = to.stands;
         waits = refl;
-        ready_is = ap is_ready to.written ∙ ready-append world.outputs goes.outputs
-            ∙ ap (λ (b : Bool). if b then true else is_ready goes.outputs) stands.ready_is ∙ sym goes.ready;
+        count = stands.count;
         came = to.came;
       }
 
-  pub frame-goes_on : (now : Bool) (h : Header) (payload rest : List ℕ) → cut_of waiting ≡ whole h payload rest
-      → GoesOn old new was now (frame h payload ∷ []) held held' → (now ≡ false → IsFresh new)
-      → Stands start before (at_sink at held' faults') new rest now
-  frame-goes_on now h payload rest cut goes fresh =
-      let went = frame-went now h payload rest cut goes in
-      record { served = went.served; hub_is = went.hub_is; waits = went.waits; ready_is = went.ready_is; fresh = fresh }
+  pub frame-goes_on : (h : Header) (payload rest : List ℕ) → cut_of waiting ≡ whole h payload rest → Puts old new (frame h payload ∷ []) held held'
+      → IsOpen new → Stands start before (at_sink at held' faults') new rest taken
+  frame-goes_on h payload rest cut puts open_still =
+      let went = frame-went h payload rest cut puts in
+      record { served = went.served; hub_is = went.hub_is; waits = went.waits; count = went.count; open_still = open_still }
 
   -- it was the last
-  pub frame-last : (now : Bool) (h : Header) (payload rest : List ℕ) → cut_of waiting ≡ whole h payload rest → h ≡ header.End → payload ≡ []
-      → GoesOn old new was now (frame h payload ∷ []) held held'
-      → (served : Served start before (at_sink at held' faults')) × HasEnded served
-  frame-last now h payload rest cut end nothing goes =
-      let went = frame-went now h payload rest cut goes in
+  pub frame-last : (h : Header) (payload rest : List ℕ) → cut_of waiting ≡ whole h payload rest → h ≡ header.End → payload ≡ []
+      → Puts old new (frame h payload ∷ []) held held' → (served : Served start before (at_sink at held' faults')) × HasEnded served
+  frame-last h payload rest cut end nothing puts =
+      let went = frame-went h payload rest cut puts in
       (went.served, inl (world.inputs, went.came ∙ ap (λ (f : Frame). world.inputs ++ f ∷ []) (λ n. frame (end n) (nothing n))))
 
-  pub frame-cut : (h : Header) (payload rest : List ℕ) → cut_of waiting ≡ whole h payload rest
-      → GoesOnCut old new (frame h payload ∷ []) held held' → ServedCut start before (at_sink at held' faults')
-  frame-cut h payload rest cut goes =
-      let to : GoesTo world new (frame h payload ∷ []) goes.outputs = goes-to _ _ goes.goes in
+  pub frame-cut : (h : Header) (payload rest : List ℕ) → cut_of waiting ≡ whole h payload rest → PutsCut old new (frame h payload ∷ []) held held'
+      → ServedCut start before (at_sink at held' faults')
+  frame-cut h payload rest cut puts =
+      let to : GoesTo world new (frame h payload ∷ []) puts.outputs = goes-to _ _ puts.goes in
       record {
         world = to.world;
         comes = comes-then _ _ _ stands.served.comes to.comes;
         taken = stands.served.taken;
         rest = rest;
-        frames = frame-comes h payload rest goes.outputs to cut;
+        frames = frame-comes h payload rest puts.outputs to cut;
         consumed = stands.served.consumed;
-        written = subst (λ (xs : List ℕ). AppendsCut before.held held' xs) (sym (text-then goes.outputs to.world to.written))
-            (inl (front-then before.held held held' _ _ stands.served.written goes.front));
+        written = subst (λ (xs : List ℕ). AppendsCut before.held held' xs) (sym (text-then puts.outputs to.world to.written))
+            (inl (front-then before.held held held' _ _ stands.served.written puts.front));
       }
 
   -- frames were put, and none came
-  pub puts-on : Puts old new held held' → (was ≡ false → (new ≡ old) × Keeps held held')
-      → Stands start before (at_sink at held' faults') new waiting was
-  puts-on puts still = by was refl
-    where
-      by : (b : Bool) → b ≡ was → Stands start before (at_sink at held' faults') new waiting was
-      by true is =
-          let to : GoesTo world new [] puts.outputs = goes-to _ _ puts.goes in
-          record {
-            served = record {
-              world = to.world;
-              comes = comes-then _ _ _ stands.served.comes to.comes;
-              taken = stands.served.taken;
-              rest = stands.served.rest;
-              frames = subst (λ (fs : List Frame). AreFrames stands.served.taken fs stands.served.rest) (sym (to.came ∙ append-nil world.inputs)) stands.served.frames;
-              consumed = stands.served.consumed;
-              written = subst (λ (xs : List ℕ). Appends before.held held' xs) (sym (text-then puts.outputs to.world to.written))
-                  (Appends-trans before.held held held' _ _ stands.served.written puts.written);
-            };
-            hub_is = to.stands;
-            waits = stands.waits;
-            ready_is = ap is_ready to.written ∙ ready-append world.outputs puts.outputs
-                ∙ ap (λ (b : Bool). if b then true else is_ready puts.outputs) (stands.ready_is ∙ sym is) ∙ is;
-            fresh = λ no. let no : true ≡ false = is ∙ no in cc;
-          }
-      by false is =
-          let (same, kept) = still (sym is) in
-          record {
-            served = record {
-              world = world;
-              comes = stands.served.comes;
-              taken = stands.served.taken;
-              rest = stands.served.rest;
-              frames = stands.served.frames;
-              consumed = stands.served.consumed;
-              written = Appends-kept before.held held held' _ stands.served.written kept;
-            };
-            hub_is = stands.hub_is ∙ sym same;
-            waits = stands.waits;
-            ready_is = stands.ready_is;
-            fresh = λ no. subst IsFresh (sym same) (stands.fresh no);
-          }
+  pub puts-on : Puts old new [] held held' → IsOpen new → Stands start before (at_sink at held' faults') new waiting taken
+  puts-on puts open_still =
+      let to : GoesTo world new [] puts.outputs = goes-to _ _ puts.goes in
+      record {
+        served = record {
+          world = to.world;
+          comes = comes-then _ _ _ stands.served.comes to.comes;
+          taken = stands.served.taken;
+          rest = stands.served.rest;
+          frames = subst (λ (fs : List Frame). AreFrames stands.served.taken fs stands.served.rest) (sym (to.came ∙ append-nil world.inputs)) stands.served.frames;
+          consumed = stands.served.consumed;
+          written = subst (λ (xs : List ℕ). Appends before.held held' xs) (sym (text-then puts.outputs to.world to.written))
+              (Appends-trans before.held held held' _ _ stands.served.written puts.written);
+        };
+        hub_is = to.stands;
+        waits = stands.waits;
+        count = stands.count;
+        open_still = open_still;
+      }
 
   -- a put failed, or sending on
   pub puts-cut : PutsOrCut old new held held' → ServedCut start before (at_sink at held' faults')
@@ -203,13 +167,10 @@ module _ (start : ControlValue) (before at : Streams) (held held' : Option (List
       }
 
 -- ---- more bytes came
-module _ (start : ControlValue) (before at : Streams) (coming : Option (List ℕ)) (faults : ℕ) (hub : HubValue) (old new : List ℕ) (is : Bool)
-    (stands : Stands start before at hub old is) where
-  after : Streams
-  after = record { coming = coming; held = at.held; source_faults = faults; sink_faults = at.sink_faults }
-
+module _ (start : ControlValue) (before at : Streams) (coming : Option (List ℕ)) (faults : ℕ) (hub : HubValue) (old new : List ℕ) (taken : ℕ)
+    (stands : Stands start before at hub old taken) where
   pub takes-more : (piece : List ℕ) → new ≡ old ++ piece → Consumes at.coming coming piece
-      → Stands start before (record { coming = coming; held = at.held; source_faults = faults; sink_faults = at.sink_faults }) hub new is
+      → Stands start before (record { coming = coming; held = at.held; source_faults = faults; sink_faults = at.sink_faults }) hub new (taken + length piece)
   takes-more piece longer more = record {
     served = record {
       world = stands.served.world;
@@ -222,12 +183,12 @@ module _ (start : ControlValue) (before at : Streams) (coming : Option (List ℕ
     };
     hub_is = stands.hub_is;
     waits = ap (λ (b : List ℕ). b ++ piece) stands.waits ∙ sym longer;
-    ready_is = stands.ready_is;
-    fresh = stands.fresh;
+    count = length-append stands.served.taken piece ∙ ap (λ (n : ℕ). n + length piece) stands.count;
+    open_still = stands.open_still;
   }
 
 -- ---- the beginning
-pub stands-first : (start : ControlValue) (at : Streams) (hub : HubValue) → hub ≡ new_hub start → Stands start at at hub [] false
+pub stands-first : (start : ControlValue) (at : Streams) (hub : HubValue) → hub ≡ new_hub start → Stands start at at hub [] 0
 stands-first start at hub is = record {
   served = record {
     world = beginning start;
@@ -240,8 +201,8 @@ stands-first start at hub is = record {
   };
   hub_is = sym is;
   waits = refl;
-  ready_is = refl;
-  fresh = λ _. subst IsFresh (sym is) (record { nobody = refl; settled = refl; given = refl });
+  count = refl;
+  open_still = subst IsOpen (sym is) (inl refl);
 }
 
 -- ---- the sink kept what it holds

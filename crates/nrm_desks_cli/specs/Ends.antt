@@ -1,5 +1,5 @@
 -- How the program of many desks ends: what each status says of the words, the file, the frames and what was written.
-use Rattle.std.specs.Prelude.{ℕ, ℤ, ◌≡◌, ◌⊎◌, false, List, Option, Some, None, Ok, Err, ⊤}
+use Rattle.std.specs.Prelude.{ℕ, ℤ, ◌≡◌, ◌⊎◌, List, Option, Some, None, Ok, Err}
 use Rattle.nrm_model.specs.Network.{NetworkValue}
 use Rattle.nrm_plan.specs.Plans.{IsOpeningPlan, OpeningOverflows, PlanValue}
 use Rattle.nrm_control.specs.State.{opening}
@@ -11,8 +11,9 @@ use Rattle.nrm_common_cli.specs.Words.{overflow_line, told_pivots}
 use Rattle.nrm_session.specs.Serving.{Streams}
 use Rattle.nrm_hub.specs.declared.again.AgainFault.{AgainFault}
 use Rattle.nrm_hub.specs.declared.again.AgainFault.TheVariants as fault
+use Rattle.nrm_hub.specs.declared.phase.Phase.TheVariants as phase
 use Rattle.nrm_desks_cli.specs.Jobs.{DesksJob, usage_line}
-use Rattle.nrm_desks_cli.specs.Served.{HasEnded, HasNoRow, IsNoFrame, NothingIsLeft, Served, ServedCut, is_ready}
+use Rattle.nrm_desks_cli.specs.Served.{HasEnded, HasNoRow, IsNoFrame, IsTooLong, NothingIsLeft, Served, ServedCut}
 use Rattle.nrm_desks_cli.specs.declared.status.DesksStatus.{DesksStatus}
 use Rattle.nrm_desks_cli.specs.declared.status.DesksStatus.TheVariants as status
 
@@ -104,9 +105,9 @@ Ends asked before after status.WriteFault =
     SinkFailed before after × (RanCut asked before after ⊎ (ToldCut asked before after
     ⊎ (StopsAtNoRow asked before after WroteCut ⊎ StopsAtOther asked before after WroteCut)))
 Ends asked before after status.NoMemory =
-    RanOut asked before after ⊎ Ran asked before after (λ start served. is_ready served.world.outputs ≡ false)
+    RanOut asked before after ⊎ Ran asked before after (λ start served. served.world.hub.phase ≡ phase.Replaying)
 Ends asked before after status.Overflow = Told asked before after status.Overflow
-Ends asked before after status.TooLong = Ran asked before after (λ start served. ⊤)
+Ends asked before after status.TooLong = Ran asked before after (λ start served. IsTooLong served)
 Ends asked before after status.FileFault = Told asked before after status.FileFault
 Ends asked before after status.NoFrame = Ran asked before after (λ start served. IsNoFrame served)
 Ends asked before after status.NoRow = StopsAtNoRow asked before after Wrote

@@ -1,16 +1,14 @@
 //! Frames over a stream: each whole frame of what came is carried out, and all that is due is sent on, before more is taken.
-ghost use Rattle.std.specs.Prelude.{◌≡◌, ◌≢◌, [], false, true, None, Some, OnErr, OnOk};
-ghost use Rattle.std.specs.Io.KnownBytes.{Keeps};
+ghost use Rattle.std.specs.Prelude.{ℕ, ◌≡◌, ◌≢◌, [], None, Some, OnErr, OnOk};
 ghost use Rattle.nrm_edge.specs.Causes.{HasCause};
 ghost use Rattle.nrm_control.specs.Standing.{ControlValue};
 ghost use Rattle.nrm_frames.specs.Cutting.{cut_of, part};
 ghost use Rattle.nrm_hub.specs.Goes.{Puts};
 ghost use Rattle.nrm_hub.specs.Hub.{new_hub};
-ghost use Rattle.nrm_hub.specs.Waiting.{NothingIsDue};
 ghost use Rattle.nrm_session.specs.Serving.{Streams, streams};
-ghost use Rattle.nrm_desks_cli.specs.Inner.Handling.{IsFresh};
 ghost use Rattle.nrm_desks_cli.specs.Inner.Serving.{EndsWith, GoesOnFirst, HandlesFirst, PutsOrCut, ServesTo, Stands, StandsOr};
 ghost use Rattle.nrm_desks_cli.specs.Inner.Serving.{TakesOr, at_sink, end_of};
+ghost use Rattle.nrm_desks_cli.specs.Served.{IsDone, IsOpen};
 ghost use Rattle.nrm_desks_cli.specs.declared.serving.ServeEnd.TheVariants as end;
 
 use crate::handling::{Handled, handle, take_round};
@@ -44,14 +42,13 @@ pub(crate) enum ServeEnd {
 fn handle_first<K: Sink>(
     alloc: Global,
     hub: &mut Hub,
-    is_ready: &mut bool,
     waiting: &[u8],
     sink: &mut K,
 ) -> Option<(Handled, usize)>
-    requires fresh { is_ready.old ≡ false → IsFresh hub.old }
-    ensures first { HandlesFirst hub.old hub.new is_ready.old is_ready.new waiting.now (K.held sink.old) (K.held sink.new)
+    requires still { IsOpen hub.old }
+    ensures first { HandlesFirst hub.old hub.new waiting.now (K.held sink.old) (K.held sink.new)
         (K.faults sink.old) (K.faults sink.new) result }
-    ensures fresh { GoesOnFirst result → is_ready.new ≡ false → IsFresh hub.new }
+    ensures still { GoesOnFirst result → IsOpen hub.new }
 {
     match cut_frame(waiting) {
         Cut::Part => None,
@@ -61,7 +58,7 @@ fn handle_first<K: Sink>(
             payload,
             rest,
         } => {
-            let handled = handle(alloc, hub, is_ready, header, payload, sink);
+            let handled = handle(alloc, hub, header, payload, sink);
             Some((handled, waiting.len() - rest.len()))
         }
     }
@@ -84,17 +81,16 @@ fn end_of(handled: Handled) -> Option<ServeEnd>
 fn handle_all<K: Sink>(
     alloc: Global,
     hub: &mut Hub,
-    is_ready: &mut bool,
     incoming: &mut Incoming,
     sink: &mut K,
 ) -> Option<ServeEnd>
-    requires fresh { is_ready.old ≡ false → IsFresh hub.old }
-    ensures { (start : ControlValue) (before at : Streams)
-        → Stands start before (at_sink at (K.held sink.old) (K.faults sink.old)) hub.old incoming.old is_ready.old
-        → StandsOr start before (at_sink at (K.held sink.new) (K.faults sink.new)) (K.faults sink.old)
-        hub.new incoming.new is_ready.new result }
+    requires still { IsOpen hub.old }
+    ensures stands { (start : ControlValue) (before at : Streams) (taken : ℕ)
+        → Stands start before (at_sink at (K.held sink.old) (K.faults sink.old)) hub.old incoming.old taken
+        → StandsOr start before (at_sink at (K.held sink.new) (K.faults sink.new)) (K.faults sink.old) hub.new incoming.new taken result }
+    ensures still { result ≡ None → IsOpen hub.new }
 {
-    while let Some((handled, used)) = handle_first(alloc, hub, is_ready, incoming.waiting(), sink) {
+    while let Some((handled, used)) = handle_first(alloc, hub, incoming.waiting(), sink) {
         if let Some(end) = end_of(handled) {
             return Some(end);
         }
@@ -103,21 +99,16 @@ fn handle_all<K: Sink>(
     None
 }
 
-// Gives clients their turns, once clients may be opened, and sends on what is due.
-fn send_due<K: Sink>(
-    alloc: Global,
-    hub: &mut Hub,
-    is_ready: bool,
-    sink: &mut K,
-) -> Result<(), Failed>
-    ensures puts { OnOk result (Puts hub.old hub.new (K.held sink.old) (K.held sink.new)) }
+// Gives clients their turns, once clients may come, and sends on what is due.
+fn send_due<K: Sink>(alloc: Global, hub: &mut Hub, sink: &mut K) -> Result<(), Failed>
+    requires { IsOpen hub.old }
+    ensures puts { OnOk result (Puts hub.old hub.new [] (K.held sink.old) (K.held sink.new)) }
     ensures cut { OnErr result (PutsOrCut hub.old hub.new (K.held sink.old) (K.held sink.new)) }
-    ensures still { is_ready ≡ false → (hub.new ≡ hub.old) × Keeps (K.held sink.old) (K.held sink.new) }
-    ensures due { OnOk result (is_ready ≡ true → NothingIsDue hub.new) }
+    ensures done { OnOk result (IsDone hub.new) }
     ensures sent { OnOk result (K.unsent sink.new ≡ []) }
     ensures cause { HasCause (K.faults sink.old) (K.faults sink.new) result }
 {
-    take_round(alloc, hub, is_ready, sink)?;
+    take_round(alloc, hub, sink)?;
     sink.flush()
 }
 
@@ -139,22 +130,20 @@ fn end_with<K: Sink>(sink: &mut K, told: ServeEnd) -> ServeEnd
 fn serve_piece<K: Sink>(
     alloc: Global,
     hub: &mut Hub,
-    is_ready: &mut bool,
     incoming: &mut Incoming,
     sink: &mut K,
 ) -> Option<ServeEnd>
-    requires fresh { is_ready.old ≡ false → IsFresh hub.old }
-    ensures stands { (start : ControlValue) (before at : Streams)
-        → Stands start before (at_sink at (K.held sink.old) (K.faults sink.old)) hub.old incoming.old is_ready.old
-        → StandsOr start before (at_sink at (K.held sink.new) (K.faults sink.new)) (K.faults sink.old)
-        hub.new incoming.new is_ready.new result }
-    ensures due { result ≡ None → is_ready.new ≡ true → NothingIsDue hub.new }
+    requires still { IsOpen hub.old }
+    ensures stands { (start : ControlValue) (before at : Streams) (taken : ℕ)
+        → Stands start before (at_sink at (K.held sink.old) (K.faults sink.old)) hub.old incoming.old taken
+        → StandsOr start before (at_sink at (K.held sink.new) (K.faults sink.new)) (K.faults sink.old) hub.new incoming.new taken result }
+    ensures done { result ≡ None → IsDone hub.new }
     ensures sent { result ≢ Some end.WriteFault → K.unsent sink.new ≡ [] }
 {
-    if let Some(end) = handle_all(alloc, hub, is_ready, incoming, sink) {
+    if let Some(end) = handle_all(alloc, hub, incoming, sink) {
         return Some(end_with(sink, end));
     }
-    match send_due(alloc, hub, *is_ready, sink) {
+    match send_due(alloc, hub, sink) {
         Ok(()) => None,
         Err(_) => Some(ServeEnd::WriteFault),
     }
@@ -190,14 +179,13 @@ pub(crate) fn serve<S: Source, K: Sink>(
     ensures sink { result ≢ end.WriteFault → K.faults sink.new ≡ K.faults sink.old }
     ensures sent { result ≢ end.WriteFault → K.unsent sink.old ≡ [] → K.unsent sink.new ≡ [] }
 {
-    let mut is_ready = false;
     let mut taken = 0;
     while taken < MOST_BYTES {
         match take_more(incoming, source) {
             Ok(count) => taken += count as u64,
             Err(end) => return end,
         }
-        if let Some(end) = serve_piece(alloc, hub, &mut is_ready, incoming, sink) {
+        if let Some(end) = serve_piece(alloc, hub, incoming, sink) {
             return end;
         }
     }

@@ -1,10 +1,10 @@
 -- Rows of the journal that are given again, one after another.
 use Rattle.std.proofs.Common.{ℕ, ◌≡◌, ◌≢◌, ◌∙◌, ◌+◌, ◌-◌, ◌<◌, ◌≤◌, ◌==◌, Bool, true, false, List, [], ◌∷◌, ◌++◌, length, take, drop, map, get_or, Option, Some, None}
-use Rattle.std.proofs.Common.{refl, sym, ap, subst, arith, append-nil, append_assoc, bytes_eq, length-append}
+use Rattle.std.proofs.Common.{refl, sym, ap, subst, arith, append-nil, append_assoc, bytes_eq, length-append, nat_eq}
 use Rattle.std.specs.Prelude.{All, not, position}
 use Rattle.std.specs.List.{join_with_byte, slice_split}
 use Rattle.std.proofs.Math.Seq.{get_or-append_seam, take-append_seam}
-use Rattle.std.proofs.lemmas.Bool.{false≢true}
+use Rattle.std.proofs.lemmas.Bool.{false≢true, true≢false}
 use Rattle.std.proofs.lemmas.Iterator.Adapters.{position_from-zero}
 use Rattle.std.proofs.lemmas.List.{get_or-map, length-map}
 use Rattle.std.proofs.lemmas.List.Quantifiers.{position-Some}
@@ -207,7 +207,7 @@ has-end line ended =
 
 pub stops-there : (r : RegisterValue) (line whole more rest : List ℕ) (why : AgainFault) → whole ≡ line ++ 10 ∷ [] → rest ≡ whole ++ more → StopsAt r whole why
     → StopsAt r rest why
-stops-there r line whole more rest why ends is (unended lacks) = absurd (has-end line (subst (λ (w : List ℕ). All (λ c. (c == 10) ≡ false) w) ends lacks))
+stops-there r line whole more rest why ends is (unended some lacks) = absurd (has-end line (subst (λ (w : List ℕ). All (λ c. (c == 10) ≡ false) w) ends lacks))
 stops-there r line whole more rest why ends is (no_row first behind cut read) = no_row first (behind ++ more) (with-behind first behind more rest whole is cut) read
 stops-there r line whole more rest why ends is (not_next first behind row cut read late) =
     not_next first (behind ++ more) row (with-behind first behind more rest whole is cut) read late
@@ -269,3 +269,8 @@ stops-here old new payload rest why so_far stops = record {
   payload_is = so_far.payload_is;
   stops = stops;
 }
+
+-- something waits still
+pub some-waits : (xs : List ℕ) (test : Bool) → test ≡ nat_eq (length xs) 0 → test ≡ false → xs ≢ []
+some-waits [] test is some nothing = true≢false (sym is ∙ some)
+some-waits (x ∷ xs) test is some nothing = absurd (cc)

@@ -17,7 +17,9 @@ use Rattle.nrm_hub.specs.Lines.{at_line, denied_line, is_beyond, memory_line}
 use Rattle.nrm_hub.specs.Lines.{Answers, How, asks, greets_late, is_carried, is_denied, lacks, looks, may_not_ask, otherwise, repeats, runs_out}
 use Rattle.nrm_hub.specs.Register.{DeskValue, Joins, RegisterValue, added, desk_at, desk_named, new_desk, replaced, there}
 use Rattle.nrm_hub.specs.Waiting.{HasNoLine}
-use Rattle.nrm_hub.specs.Taking.{TakesLine, answers, greets, lacks_memory, may_greet, may_not_greet, refuses, too_many}
+use Rattle.nrm_hub.specs.Taking.{TakesLine, answers, greets, lacks_memory, may_greet, may_not_greet, name_by, refuses, too_many}
+use Rattle.nrm_hub.specs.World.{IsNoGreeting}
+use Rattle.nrm_hub.specs.declared.asked.Asked.{Asked}
 use Rattle.nrm_hub.specs.declared.asked.Asked.TheVariants as asked
 use Rattle.nrm_hub.specs.declared.limits.TheConstants.{LAST_SEQUENCE, MOST_LINE}
 use Rattle.nrm_hub.specs.declared.register.JoinFault.{JoinFault}
@@ -52,8 +54,8 @@ answers-desks r rights d n bytes r' how text (may_not_ask name asked may) = refl
 answers-desks r rights d n bytes r' how text (is_denied c asked may) = refl
 answers-desks r rights d n bytes r' how text (is_carried c mid reply asked may changes new few carries) =
     ap (λ (desks : List DeskValue). length desks) carries.desks ∙ length-set r.desks d _
-answers-desks r rights d n bytes r' how text (runs_out c mid asked may changes passes) = ap (λ (r : RegisterValue). length r.desks) passes.rest
-answers-desks r rights d n bytes r' how text (lacks c asked may changes) = refl
+answers-desks r rights d n bytes r' how text (runs_out c mid asked may changes above few passes) = ap (λ (r : RegisterValue). length r.desks) passes.rest
+answers-desks r rights d n bytes r' how text (lacks c asked may changes above few) = refl
 answers-desks r rights d n bytes r' how text (looks c mid reply asked may changes passes) = ap (λ (r : RegisterValue). length r.desks) passes.rest
 answers-desks r rights d n bytes r' how text (repeats c row asked may changes used at same) = refl
 
@@ -76,8 +78,8 @@ takes-line-seated r c bytes rest r' c' how text (greets name number mid d n afte
     seated-as r mid (Some d) after (hears-desk _ _ after hears) seat grown
 takes-line-seated r c bytes rest r' c' how text (may_not_greet name number after first asked may hears) within below =
     seated-as r r c.desk after (hears-desk _ _ after hears) below (omega arith)
-takes-line-seated r c bytes rest r' c' how text (lacks_memory after first hears) within below = seated-as r r c.desk after (hears-desk _ _ after hears) below (omega arith)
-takes-line-seated r c bytes rest r' c' how text (too_many first many none) within below = (below, omega arith)
+takes-line-seated r c bytes rest r' c' how text (lacks_memory after first new hears) within below = seated-as r r c.desk after (hears-desk _ _ after hears) below (omega arith)
+takes-line-seated r c bytes rest r' c' how text (too_many first new many none) within below = (below, omega arith)
 takes-line-seated r c bytes rest r' c' how text (answers d mid after done told is given hears) within below =
     let same : length mid.desks ≡ length r.desks = answers-desks r c.rights d c.number bytes mid done told given in
     let still : IsBelow c.desk (length mid.desks) = subst (λ (count : ℕ). IsBelow c.desk count) (sym same) below in
@@ -91,7 +93,7 @@ within-more (Some desk) count more grown within = omega (arith, grown, within)
 begins-seated : {spare : Option ℕ} (r r' : RegisterValue) (c c' : ClientValue) (end : ℕ) → Begins spare r r' c c' end
     → IfSome spare (λ desk. desk < length r.desks) → IsBelow c.desk (length r.desks) → IsSeatedOn r r' c'
 begins-seated r r' c c' end (taken its) within below = takes-line-seated r c _ _ r' c' its.how its.text its.takes within below
-begins-seated {spare} r r' c c' end (joined mid d first joins its) within below =
+begins-seated {spare} r r' c c' end (joined mid d first plain joins its) within below =
     let (grown, first_seat) = joins-below r c.name mid d joins within in
     let (seat, more) = takes-line-seated mid (joined_as c d (desk_at mid d).next) _ _ r' c' its.how its.text its.takes
     (within-more spare (length r.desks) (length mid.desks) grown within) first_seat in
@@ -161,18 +163,26 @@ heard c end text told become.Cut is =
     (sym is.2) (cut is.0 is.1)
 heard c end text told (become.Refused reason) is = absurd is
 
+-- by a line that is no greeting a client becomes a desk by its own name
+pub own-name : (c : ClientValue) (what : Asked) → IsNoGreeting what → name_by c what ≡ Some c.name
+own-name c (asked.Greeting name number) plain = absurd plain
+own-name c (asked.Ask product) plain = refl
+own-name c (asked.Says command) plain = refl
+
 -- a client whose name has no desk
-pub without : (spare : Option ℕ) (r r' : RegisterValue) (c c' : ClientValue) (end : ℕ) (fault : JoinFault) → c.desk ≡ None → r' ≡ r → IsJoinFault spare r fault → GoesWithout c c' end fault
+pub without : (spare : Option ℕ) (r r' : RegisterValue) (c c' : ClientValue) (end : ℕ) (name : List ℕ) (fault : JoinFault) → c.desk ≡ None
+    → name_by c (asked_in (take end c.coming)) ≡ Some name → r' ≡ r → IsJoinFault name spare r fault → GoesWithout c c' end fault
     → TakesIts spare r r' c c' end
-without spare r r' c c' end fault first same cause goes =
+without spare r r' c c' end name fault first by_name same cause goes =
     subst (λ (mid : RegisterValue). TakesIts spare r mid c c' end) (sym same) (by fault cause goes)
   where
-    by : (fault : JoinFault) → IsJoinFault spare r fault → GoesWithout c c' end fault → TakesIts spare r r c c' end
-    by join.NoMemory cause goes = record { how = otherwise; text = memory_line; takes = lacks_memory c' first goes }
+    by : (fault : JoinFault) → IsJoinFault name spare r fault → GoesWithout c c' end fault → TakesIts spare r r c c' end
+    by join.NoMemory cause goes = record { how = otherwise; text = memory_line; takes = lacks_memory c' first (name, by_name, cause) goes }
     by join.TooMany cause goes = record {
       how = otherwise;
       text = [];
-      takes = subst (λ (c' : ClientValue). TakesLine spare r c (take end c.coming) (drop (end + 1) c.coming) r c' otherwise []) (sym goes) (too_many first cause.0 cause.1);
+      takes = subst (λ (c' : ClientValue). TakesLine spare r c (take end c.coming) (drop (end + 1) c.coming) r c' otherwise []) (sym goes)
+          (too_many first (name, by_name, cause.0) cause.1 cause.2);
     }
 
 -- a greeting is answered by the number of the next line

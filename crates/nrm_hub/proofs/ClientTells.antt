@@ -52,8 +52,8 @@ takes-tells r c line rest _ _ _ _ (greets name number r' d n c' none is may join
     hears-tells (joined_as (after_line c line rest) d n) (at_line n) c' hears
 takes-tells r c line rest _ _ _ _ (may_not_greet name number c' none is may hears) =
     hears-tells (after_line c line rest) denied_line c' hears
-takes-tells r c line rest _ _ _ _ (lacks_memory c' none hears) = hears-tells (after_line c line rest) memory_line c' hears
-takes-tells r c line rest _ _ _ _ (too_many none many full) = refused (after_line c line rest) why.Desks
+takes-tells r c line rest _ _ _ _ (lacks_memory c' none new hears) = hears-tells (after_line c line rest) memory_line c' hears
+takes-tells r c line rest _ _ _ _ (too_many none new many full) = refused (after_line c line rest) why.Desks
 takes-tells r c line rest _ _ _ _ (answers d r' c' how text is_desk answered hears) =
     hears-tells (record (after_line c line rest) { number = c.number + 1 }) text c' hears
 takes-tells r c line rest _ _ _ _ (refuses d reason is_desk unfit) = refused (after_line c line rest) reason

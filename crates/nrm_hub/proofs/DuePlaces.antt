@@ -1,19 +1,20 @@
 -- The places at which something is due, as clients change.
 use Rattle.std.proofs.Common.{ℕ, ◌≡◌, ◌∙◌, ◌+◌, ◌<◌, ◌≤◌, ◌⊎◌, Bool, true, false, List, [], ◌∷◌, length, get_or, Option, Some, None, refl, sym, ap, subst, arith, inl, inr}
-use Rattle.std.specs.Prelude.{Contains, slice_set, if◌then◌else◌}
+use Rattle.std.specs.Prelude.{Contains, map, option_map, slice_set, if◌then◌else◌}
 use Rattle.std.proofs.lemmas.Bool.{cases_eq, cases_lt, false≢true}
-use Rattle.std.proofs.lemmas.List.{get_or_default, get_or-set_other, get_or-set_same, length-set}
+use Rattle.std.proofs.lemmas.List.{get_or_default, get_or-set_other, get_or-set_same, length-map, length-set}
 use Rattle.std.proofs.lemmas.List.Elements.{All-nil}
 use Rattle.nrm_frames.specs.declared.limits.TheConstants.{LAST_PLACE}
 use Rattle.nrm_frames.specs.declared.rights.Rights.{Rights}
-use Rattle.nrm_frames.specs.declared.why.Why.{Why}
-use Rattle.nrm_hub.specs.Clients.{ClientValue, after_telling, closed_for, new_client}
+use Rattle.nrm_hub.specs.Clients.{ClientValue, after_telling, new_client}
 use Rattle.nrm_hub.specs.Due.{AreDue, DueValue, IsDue, StillDue, StillDueBeside, due_at, due_count, nothing_due}
-use Rattle.nrm_hub.specs.Inner.Seats.{AreListed, AreSo, ClosesAt, HasPlaces, IsQuietAt, MakesSo, Only, OthersStay, WasClosed, WasSent, closes, stays}
+use Rattle.nrm_hub.specs.Hub.{alone, unseated}
+use Rattle.nrm_hub.specs.Inner.Seats.{AreListed, AreSo, HasPlaces, IsQuietAt, MakesSo, Only, OthersStay, WasClosed, WasSent}
 use Rattle.nrm_hub.specs.Inner.Taking.{Came, joined, refused}
 use Rattle.nrm_hub.specs.Waiting.{HadTurn, HasNoLine, IsAtRest, IsTold}
 use Rattle.nrm_hub.proofs.ClientPlaces.{at-changed, at-longer}
 use Rattle.nrm_hub.proofs.HubPlaces.{place-within}
+use Rattle.nrm_hub.proofs.Unseated.{unseated-so, was-at}
 
 -- ---- what is due
 pub nothing-is-due : (place : ℕ) → IsDue nothing_due place → ⊥
@@ -50,6 +51,14 @@ pub set-heard : (clients : List (Option ClientValue)) (due due' heard heard' : D
 set-heard clients due due' heard heard' place x within still more here are other c short is = elim (at-changed clients place other x c within is) [
   | inl (e, _) ↦ inl (subst (λ (p : ℕ). IsDue heard' p) (sym e) here)
   | inr (e, was) ↦ lift due due' heard heard' other c (still other e) (more other) (are other c short was)
+]
+
+-- and if no frame can name its place, it need not be
+pub set-closed : (clients : List (Option ClientValue)) (due heard heard' : DueValue) (place : ℕ) (x : Option ClientValue) → place < length clients
+    → StillDue heard heard' → (place ≤ LAST_PLACE → IsDue heard' place) → AreDue clients due heard → AreDue (slice_set clients place x) due heard'
+set-closed clients due heard heard' place x within more here are other c short is = elim (at-changed clients place other x c within is) [
+  | inl (e, _) ↦ inl (subst (λ (p : ℕ). IsDue heard' p) (sym e) (here (subst (λ (p : ℕ). p ≤ LAST_PLACE) e short)))
+  | inr (e, was) ↦ lift due due heard heard' other c (λ is. is) (more other) (are other c short was)
 ]
 
 -- nothing is due at a place any more
@@ -237,29 +246,38 @@ all-so P Q old now due follows listed so place c short there = elim (so.only pla
   | inr is ↦ is
 ]
 
--- nothing is listed, so all are so
-pub none-listed : (P : ClientValue → Type 0) (clients : List (Option ClientValue)) (listed : DueValue) → listed ≡ nothing_due → AreListed P clients listed
-    → (place : ℕ) (c : ClientValue) → place ≤ LAST_PLACE → get_or clients place None ≡ Some c → P c
-none-listed P clients listed none are place c short there = elim (are place c short there) [
-  | inl so ↦ so
-  | inr is ↦ absurd (nothing-is-due place (subst (λ (d : DueValue). IsDue d place) none is))
-]
-
 pub rests-had : (c : ClientValue) → IsAtRest c → HadTurn c
 rests-had c rests = inr (inr rests.line)
 
--- a client is to be closed
-pub closes-only : (clients clients' : List (Option ClientValue)) (place : ℕ) (reason : Why) → ClosesAt clients place reason clients'
-    → Only HadTurn clients clients'
-closes-only clients clients' place reason (closes c there whole) other d is =
-    elim (at-changed clients place other (Some (closed_for c reason)) d (place-within clients place c there) is) [
-      | inl (e, same) ↦ inr (subst HadTurn (cc) (closing-had (closed_for c reason) reason refl))
-      | inr (e, was) ↦ inl was
+-- who was told, and had its turn while no line was used and nobody was to be closed, waits for nothing
+pub had-rests : (c : ClientValue) → IsTold c → HadTurn c → IsAtRest c
+had-rests c told (inl used) = let none : c.used ≡ 0 = told.used in absurd (omega (arith, used, none))
+had-rests c told (inr (inl closing)) = absurd (closing told.stays)
+had-rests c told (inr (inr line)) = record { told = told; line = line }
+
+-- each is as it was, or perhaps to be closed
+unseated-turn : (desk : ℕ) (c : ClientValue) → (unseated desk c ≡ c) ⊎ HadTurn (unseated desk c)
+unseated-turn desk c = unseated-so (λ (x : ClientValue). (x ≡ c) ⊎ HadTurn x) desk c (inl refl) (inr (inr (inl (λ none. cc))))
+
+pub alone-only : (clients : List (Option ClientValue)) (place : ℕ) (c : ClientValue) (desk : Option ℕ) → get_or clients place None ≡ Some c
+    → Only HadTurn clients (alone clients place c desk)
+alone-only clients place c None there other d is = elim (at-changed clients place other (Some c) d (place-within clients place c there) is) [
+  | inl (e, same) ↦ inl (ap (λ (k : ℕ). get_or clients k None) e ∙ there ∙ same)
+  | inr (e, was) ↦ inl was
+]
+alone-only clients place c (Some desk) there other d is =
+    let mapped : List (Option ClientValue) = map (option_map (unseated desk)) clients in
+    let within : place < length mapped =
+    subst (λ (n : ℕ). place < n) (sym (length-map clients (option_map (unseated desk)))) (place-within clients place c there) in
+    elim (at-changed mapped place other (Some c) d within is) [
+      | inl (e, same) ↦ inl (ap (λ (k : ℕ). get_or clients k None) e ∙ there ∙ same)
+      | inr (e, was) ↦
+          let (b, before, is_b) = was-at (unseated desk) clients other d was in
+          elim (unseated-turn desk b) [
+            | inl same ↦ inl (before ∙ ap Some (sym same ∙ is_b))
+            | inr had ↦ inr (subst HadTurn is_b had)
+          ]
     ]
-  where
-    closing-had : (x : ClientValue) (r : Why) → x.closing ≡ Some r → HadTurn x
-    closing-had x r is = inr (inl (λ none. cc))
-closes-only clients clients' place reason (stays nothing) other d is = inl is
 
 -- ---- sent, and closed
 pub sent-as : (a a' b b' : List (Option ClientValue)) (place : ℕ) → a ≡ a' → a ≡ b' → WasSent a a place → WasSent a' b' place

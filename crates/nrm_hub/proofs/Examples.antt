@@ -1,18 +1,25 @@
 -- What lines ask, who may, rows and their texts, and what is held of a desk, by hand.
-use Rattle.std.specs.Prelude.{◌≡◌, ◌++◌, [], ◌∷◌, codes, refl, Some, None, true, false, List}
+use Rattle.std.proofs.Common.{ap, sym}
+use Rattle.std.specs.Prelude.{ℕ, ◌≡◌, ◌++◌, ◌||◌, [], ◌∷◌, bytes_eq, codes, length, refl, replicate, Some, None, true, false, List}
 use Rattle.std.specs.Fmt.{digits}
 use Rattle.nrm_frames.specs.Headers.{no_rights}
 use Rattle.nrm_frames.specs.declared.why.Why.TheVariants as why
 use Rattle.nrm_stream.specs.declared.command.Command.TheVariants as command
 use Rattle.nrm_session.specs.Replies.{bad, leg_told, no_fare, no_leg, plan_told, sold, unknown}
 use Rattle.nrm_session.specs.declared.reply.Reply.TheVariants as answered
-use Rattle.nrm_hub.specs.Again.{row_of}
+use Rattle.nrm_hub.specs.Again.{StopsAt, no_row, not_next, row_of, unended}
 use Rattle.nrm_hub.specs.Asked.{allows, asked_in, is_change, owner_of}
+use Rattle.nrm_hub.specs.Clients.{ClientValue, after_line, closed_for, joined_as, new_client, whole}
 use Rattle.nrm_hub.specs.Desks.{entry_in, seller_by, turn_in}
-use Rattle.nrm_hub.specs.Lines.{at_line, bad_line, bound_words, carried, denied_line, is_same, memory_line, otherwise, passed, reason_used, row_under, told_text}
-use Rattle.nrm_hub.specs.Register.{owners_after}
+use Rattle.nrm_hub.specs.Hub.{alone}
+use Rattle.nrm_hub.specs.Lines.{at_line, available_line, bad_line, bound_words, carried, denied_line, is_same, memory_line, otherwise, passed, reason_used, row_under, told_text}
+use Rattle.nrm_hub.specs.Register.{RegisterValue, desk_named, owners_after, there, trimmed}
 use Rattle.nrm_hub.specs.Rows.{row_text, rows_text}
+use Rattle.nrm_hub.specs.Taking.{TakesLine, may_greet, greets as greets_by}
+use Rattle.nrm_hub.specs.declared.again.AgainFault.TheVariants as fault
+use Rattle.nrm_hub.specs.declared.limits.TheConstants.{MOST_DESKS, MOST_HELD, MOST_LINE, MOST_LINES, MOST_ROWS, MOST_WAITING}
 use Rattle.nrm_hub.specs.declared.row.Row.{Row}
+use Rattle.nrm_control.specs.Standing.{ControlValue}
 use Rattle.nrm_hub.specs.declared.asked.Asked.TheVariants as asked
 
 -- ---- what lines ask
@@ -159,3 +166,70 @@ other_party = refl
 
 other_kind : is_same (command.Cancel 2) (command.Reoptimise 2) ≡ false
 other_kind = refl
+
+-- ---- limits
+held_at_least : MOST_HELD ≡ 100
+held_at_least = refl
+
+line_below : MOST_LINE ≡ 1000
+line_below = refl
+
+most_waiting : MOST_WAITING ≡ 131072
+most_waiting = refl
+
+most_lines : MOST_LINES ≡ 100
+most_lines = refl
+
+most_desks : MOST_DESKS ≡ 100000
+most_desks = refl
+
+most_rows : MOST_ROWS ≡ 4294967296
+most_rows = refl
+
+-- 199 rows are held, and of 200 the last hundred
+still_held : length (trimmed (replicate 199 (record { sequence = 3; command = command.Cancel 1; reply = answered.Unknown }))) ≡ 199
+still_held = refl
+
+dropped : length (trimmed (replicate 200 (record { sequence = 3; command = command.Cancel 1; reply = answered.Unknown }))) ≡ 100
+dropped = refl
+
+-- ---- greetings
+own_name : (c : ClientValue) → c.name ≡ codes "A" → may_greet c (codes "A") ≡ true
+own_name c is = ap (λ (name : List ℕ). bytes_eq name (codes "A") || c.rights.greet) is
+
+other_name : may_greet (new_client 0 (codes "A") (record no_rights { look = true })) (codes "B") ≡ false
+other_name = refl
+
+by_right : may_greet (new_client 0 (codes "A") (record no_rights { greet = true })) (codes "B") ≡ true
+by_right = refl
+
+-- the number of a greeting counts, though it isn't the next one of the desk
+by_its_number : (r : RegisterValue) (d : ℕ) (rest : List ℕ) → desk_named r (codes "A") ≡ Some d
+    → TakesLine None r (new_client 0 (codes "A") no_rights) (codes "desk A 7") rest r
+    (record (joined_as (after_line (new_client 0 (codes "A") no_rights) (codes "desk A 7") rest) d 7) { told = [] ++ at_line 7 }) otherwise (at_line 7)
+by_its_number r d rest is = greets_by (codes "A") (Some 7) r d 7 _ refl refl refl (there d is) refl whole
+
+-- the line feed of a line is used with it
+used_with_its_end : (after_line (new_client 0 (codes "A") no_rights) (codes "plan") []).used ≡ 5
+used_with_its_end = refl
+
+-- ---- seats that are asked for
+no_product : (control : ControlValue) → available_line control (codes "THRU") None ≡ codes "ask THRU unknown\n"
+no_product control = refl
+
+-- ---- rows again: nothing stops behind the last
+first-of : (line behind : List ℕ) → line ++ 10 ∷ behind ≡ [] → ⊥
+first-of [] behind is = absurd (cc)
+first-of (x ∷ line) behind is = absurd (cc)
+
+no_row_is_missing : (r : RegisterValue) (n : ℕ) → StopsAt r [] (fault.NoRow n) → ⊥
+no_row_is_missing r _ (unended some none) = some refl
+no_row_is_missing r _ (no_row line behind cut read) = first-of line behind (sym cut)
+no_row_is_missing r _ (not_next line behind row cut read late) = first-of line behind (sym cut)
+
+-- ---- another client is the desk: of three clients the second, which is it too, is to be closed
+elsewhere : alone (Some (new_client 0 [] no_rights) ∷ Some (joined_as (new_client 1 [] no_rights) 5 1)
+    ∷ Some (joined_as (new_client 2 [] no_rights) 5 1) ∷ []) 2 (joined_as (new_client 2 [] no_rights) 5 1) (Some 5)
+    ≡ Some (new_client 0 [] no_rights) ∷ Some (closed_for (joined_as (new_client 1 [] no_rights) 5 1) why.Elsewhere)
+    ∷ Some (joined_as (new_client 2 [] no_rights) 5 1) ∷ []
+elsewhere = refl

@@ -1,26 +1,28 @@
 -- What a call of the hub does, by what may happen in the world that the hub stands in.
 use Rattle.std.proofs.Common.{ℕ, ◌≤◌, ◌≡◌, ◌≢◌, ◌∙◌, ◌+◌, ◌<◌, List, [], ◌∷◌, ◌++◌, length, Option, Some, None, refl, sym, ap, subst}
 use Rattle.std.proofs.Common.{append-nil, append_assoc}
-use Rattle.std.specs.Prelude.{All, ◌==◌, false, replicate, ⊤}
+use Rattle.std.specs.Prelude.{All, ◌==◌, ◌⊎◌, true, false, replicate, take}
 use Rattle.nrm_frames.specs.Frames.{Frame}
-use Rattle.nrm_frames.specs.Outgoing.{Output, close, keep, send}
+use Rattle.nrm_frames.specs.Outgoing.{Output, close, keep, ready, send}
 use Rattle.nrm_frames.specs.declared.header.Header.TheVariants as header
 use Rattle.nrm_frames.specs.declared.rights.Rights.{Rights}
 use Rattle.nrm_frames.specs.declared.why.Why.{Why}
 use Rattle.nrm_frames.specs.declared.why.Why.TheVariants as why
-use Rattle.nrm_hub.specs.Clients.{ClientValue, after_telling, closed_for, joined_as, new_client, with_piece}
+use Rattle.nrm_hub.specs.Asked.{asked_in}
+use Rattle.nrm_hub.specs.Clients.{ClientValue, after_telling, joined_as, new_client, with_piece}
 use Rattle.nrm_hub.specs.Goes.{Goes, GoesTo}
-use Rattle.nrm_hub.specs.Hub.{HubValue, client_at, with_client, with_places}
+use Rattle.nrm_hub.specs.Hub.{HubValue, alone, client_at, seated_after, takes_frames, takes_lines, with_client, with_closed, with_places}
 use Rattle.nrm_hub.specs.Lines.{How}
 use Rattle.nrm_hub.specs.Register.{Joins, RegisterValue, desk_at}
 use Rattle.nrm_hub.specs.Rows.{Entry, rows_text}
 use Rattle.nrm_hub.specs.Spare.{IsSpare}
 use Rattle.nrm_hub.specs.Taking.{TakesLine}
-use Rattle.nrm_hub.specs.World.{Comes, GivesAgain, Happens, IsCause, IsNothing, IsTooMuch, World, after_frame, after_output, exchange_of, frame}
-use Rattle.nrm_hub.specs.World.{at_one, with_answered, with_opened, with_piece_of}
-use Rattle.nrm_hub.specs.World.{asked_to_keep, becomes_desk, here, left, line_taken, opened, passed_over, piece_came, places_made, rows_again}
-use Rattle.nrm_hub.specs.World.{said_to_be_kept, then, to_be_closed, too_much_came, was_closed, was_not_opened, was_told}
-use Rattle.nrm_hub.specs.declared.limits.TheConstants.{MOST_LINE, MOST_WAITING}
+use Rattle.nrm_hub.specs.Waiting.{HadTurn, IsTold, OfEach}
+use Rattle.nrm_hub.specs.World.{Comes, GivesAgain, Happens, IsNoGreeting, IsNothing, IsTooMuch, World, after_frame, after_output, at_one, exchange_of, frame}
+use Rattle.nrm_hub.specs.World.{with_answered, with_desk, with_opened, with_piece_of}
+use Rattle.nrm_hub.specs.World.{all_told, asked_to_keep, becomes_desk, ended, here, left, line_taken, opened, passed_over, piece_came, places_made, readied}
+use Rattle.nrm_hub.specs.World.{rows_again, said_to_be_kept, then, too_long, too_much_came, was_closed, was_not_opened, was_told}
+use Rattle.nrm_hub.specs.declared.limits.TheConstants.{MOST_LINE, MOST_OPENED, MOST_WAITING}
 use Rattle.nrm_hub.specs.declared.phase.Phase.TheVariants as phase
 
 -- ---- one after another
@@ -77,129 +79,165 @@ went w w' i o happens came written = record {
   written = written;
 }
 
-pub goes-again : (h : HubValue) (payload : List ℕ) (rows : List Entry) (r : RegisterValue) → h.clients ≡ [] → h.phase ≡ phase.Settled
-    → h.register.text ≡ [] → payload ≡ rows_text h.register.rows rows → GivesAgain h.register rows r
+pub goes-again : (h : HubValue) (payload : List ℕ) (rows : List Entry) (r : RegisterValue) → h.phase ≡ phase.Replaying → payload ≢ []
+    → payload ≡ rows_text h.register.rows rows → GivesAgain h.register rows r
     → Goes h (record h { register = r }) (frame (header.Again (length payload)) payload ∷ []) []
-goes-again h payload rows r nobody settled given is again =
+goes-again h payload rows r replaying some is again =
     goes-at
-    (λ h. (h.clients ≡ []) × (h.phase ≡ phase.Settled) × (h.register.text ≡ []) × (payload ≡ rows_text h.register.rows rows)
-    × GivesAgain h.register rows r)
-    (λ h. record h { register = r }) (frame (header.Again (length payload)) payload ∷ []) (λ _. []) h (nobody, settled, given, is, again)
+    (λ h. (h.phase ≡ phase.Replaying) × (payload ≡ rows_text h.register.rows rows) × GivesAgain h.register rows r)
+    (λ h. record h { register = r }) (frame (header.Again (length payload)) payload ∷ []) (λ _. []) h (replaying, is, again)
     (λ w p. went w (record (after_frame w (frame (header.Again (length payload)) payload) (record w.hub { register = r })) {
       again = w.again ++ rows;
-    }) (frame (header.Again (length payload)) payload ∷ []) [] (rows_again payload rows r p.0 p.1 p.2 p.3 p.4) refl (sym (append-nil w.outputs)))
+    }) (frame (header.Again (length payload)) payload ∷ []) [] (rows_again payload rows r p.0 some p.1 p.2) refl (sym (append-nil w.outputs)))
 
-pub goes-places : (h : HubValue) (count : ℕ) → Goes h (with_places h (replicate count None)) [] []
-goes-places h count =
-    goes-at (λ _. ⊤) (λ h. with_places h (replicate count None)) [] (λ _. []) h tt
-    (λ w _. went w (record w { hub = with_places w.hub (replicate count None) }) [] [] (places_made count) (sym (append-nil w.inputs))
+pub goes-ready : (h : HubValue) → h.phase ≡ phase.Replaying
+    → Goes h (record h { phase = phase.Settled }) (frame (header.Again 0) [] ∷ []) (ready h.register.rows ∷ [])
+goes-ready h replaying =
+    goes-at (λ h. h.phase ≡ phase.Replaying) (λ h. record h { phase = phase.Settled }) (frame (header.Again 0) [] ∷ [])
+    (λ h. ready h.register.rows ∷ []) h replaying
+    (λ w p. went w
+    (after_output (after_frame w (frame (header.Again 0) []) w.hub) (ready w.hub.register.rows) (record w.hub { phase = phase.Settled }))
+    (frame (header.Again 0) [] ∷ []) (ready w.hub.register.rows ∷ []) (readied p) refl refl)
+
+pub goes-places : (h : HubValue) (count : ℕ) → takes_frames h.phase ≡ true → Goes h (with_places h (replicate count None)) [] []
+goes-places h count open_still =
+    goes-at (λ h. takes_frames h.phase ≡ true) (λ h. with_places h (replicate count None)) [] (λ _. []) h open_still
+    (λ w p. went w (record w { hub = with_places w.hub (replicate count None) }) [] [] (places_made count p) (sym (append-nil w.inputs))
     (sym (append-nil w.outputs)))
 
-pub goes-opened : (h : HubValue) (place : ℕ) (name : List ℕ) (rights : Rights) → place < length h.clients → client_at h place ≡ None
+pub goes-opened : (h : HubValue) (place : ℕ) (name : List ℕ) (rights : Rights) → takes_frames h.phase ≡ true → place < length h.clients
+    → client_at h place ≡ None
     → Goes h (record (with_client h place (Some (new_client h.opened name rights))) { opened = h.opened + 1 })
     (frame (header.Open place name rights) [] ∷ []) []
-goes-opened h place name rights within free =
-    goes-at (λ h. (place < length h.clients) × (client_at h place ≡ None))
+goes-opened h place name rights open_still within free =
+    goes-at (λ h. (takes_frames h.phase ≡ true) × (place < length h.clients) × (client_at h place ≡ None))
     (λ h. record (with_client h place (Some (new_client h.opened name rights))) { opened = h.opened + 1 })
-    (frame (header.Open place name rights) [] ∷ []) (λ _. []) h (within, free)
+    (frame (header.Open place name rights) [] ∷ []) (λ _. []) h (open_still, within, free)
     (λ w p. went w (with_opened w place name rights) (frame (header.Open place name rights) [] ∷ []) []
-    (opened place name rights p.0 p.1) refl (sym (append-nil w.outputs)))
+    (opened place name rights p.0 p.1 p.2) refl (sym (append-nil w.outputs)))
 
-pub goes-unopened : (h : HubValue) (place : ℕ) (name : List ℕ) (rights : Rights) → client_at h place ≡ None
+pub goes-unopened : (h : HubValue) (place : ℕ) (name : List ℕ) (rights : Rights) → takes_frames h.phase ≡ true
+    → (length h.clients ≤ place) ⊎ (MOST_OPENED ≤ h.opened) → client_at h place ≡ None
     → Goes h h (frame (header.Open place name rights) [] ∷ []) (close place why.Memory ∷ [])
-goes-unopened h place name rights free =
-    goes-at (λ h. client_at h place ≡ None) (λ h. h) (frame (header.Open place name rights) [] ∷ []) (λ _. close place why.Memory ∷ []) h free
+goes-unopened h place name rights open_still lacks free =
+    goes-at (λ h. (takes_frames h.phase ≡ true) × ((length h.clients ≤ place) ⊎ (MOST_OPENED ≤ h.opened)) × (client_at h place ≡ None)) (λ h. h)
+    (frame (header.Open place name rights) [] ∷ []) (λ _. close place why.Memory ∷ []) h (open_still, lacks, free)
     (λ w p. went w (after_output (after_frame w (frame (header.Open place name rights) []) w.hub) (close place why.Memory) w.hub)
-    (frame (header.Open place name rights) [] ∷ []) (close place why.Memory ∷ []) (was_not_opened place name rights p) refl refl)
+    (frame (header.Open place name rights) [] ∷ []) (close place why.Memory ∷ []) (was_not_opened place name rights p.0 p.1 p.2) refl refl)
 
-pub goes-piece : (h : HubValue) (place : ℕ) (c : ClientValue) (piece : List ℕ) → client_at h place ≡ Some c → c.closing ≡ None
-    → length c.coming + length piece ≤ MOST_WAITING → Goes h (with_client h place (Some (with_piece c piece))) (frame (header.Came place (length piece)) piece ∷ []) []
-goes-piece h place c piece there whole fits =
-    goes-at (λ h. client_at h place ≡ Some c) (λ h. with_client h place (Some (with_piece c piece)))
-    (frame (header.Came place (length piece)) piece ∷ []) (λ _. []) h there
-    (λ w p. went w (with_piece_of w place c piece) (frame (header.Came place (length piece)) piece ∷ []) []
-    (piece_came place c piece p whole fits) refl (sym (append-nil w.outputs)))
+module _ (h : HubValue) (place : ℕ) (c : ClientValue) (open_still : takes_frames h.phase ≡ true) (there : client_at h place ≡ Some c)
+    (whole : c.closing ≡ None) where
+  pub goes-piece : (piece : List ℕ) → length c.coming + length piece ≤ MOST_WAITING
+      → Goes h (with_client h place (Some (with_piece c piece))) (frame (header.Came place (length piece)) piece ∷ []) []
+  goes-piece piece fits =
+      goes-at (λ h. (takes_frames h.phase ≡ true) × (client_at h place ≡ Some c)) (λ h. with_client h place (Some (with_piece c piece)))
+      (frame (header.Came place (length piece)) piece ∷ []) (λ _. []) h (open_still, there)
+      (λ w p. went w (with_piece_of w place c piece) (frame (header.Came place (length piece)) piece ∷ []) []
+      (piece_came place c piece p.0 p.1 whole fits) refl (sym (append-nil w.outputs)))
 
-pub goes-too_much : (h : HubValue) (place : ℕ) (c : ClientValue) (piece : List ℕ) (reason : Why) → client_at h place ≡ Some c
-    → c.closing ≡ None → IsTooMuch c piece reason
-    → Goes h (with_client h place (Some (closed_for c reason))) (frame (header.Came place (length piece)) piece ∷ []) []
-goes-too_much h place c piece reason there whole much =
-    goes-at (λ h. client_at h place ≡ Some c) (λ h. with_client h place (Some (closed_for c reason)))
-    (frame (header.Came place (length piece)) piece ∷ []) (λ _. []) h there
-    (λ w p. went w
-    (after_frame w (frame (header.Came place (length piece)) piece) (with_client w.hub place (Some (closed_for c reason))))
-    (frame (header.Came place (length piece)) piece ∷ []) [] (too_much_came place c piece reason p whole much) refl (sym (append-nil w.outputs)))
+  pub goes-too_much : (piece : List ℕ) (reason : Why) → IsTooMuch c piece reason
+      → Goes h (with_closed h place c reason) (frame (header.Came place (length piece)) piece ∷ []) []
+  goes-too_much piece reason much =
+      goes-at (λ h. (takes_frames h.phase ≡ true) × (client_at h place ≡ Some c)) (λ h. with_closed h place c reason)
+      (frame (header.Came place (length piece)) piece ∷ []) (λ _. []) h (open_still, there)
+      (λ w p. went w (after_frame w (frame (header.Came place (length piece)) piece) (with_closed w.hub place c reason))
+      (frame (header.Came place (length piece)) piece ∷ []) [] (too_much_came place c piece reason p.0 p.1 whole much) refl
+      (sym (append-nil w.outputs)))
 
-pub goes-past : (h : HubValue) (f : Frame) → IsNothing h f.header → Goes h h (f ∷ []) []
-goes-past h f is =
-    goes-at (λ h. IsNothing h f.header) (λ h. h) (f ∷ []) (λ _. []) h is
-    (λ w p. went w (after_frame w f w.hub) (f ∷ []) [] (passed_over f p) refl (sym (append-nil w.outputs)))
+  pub goes-left : Goes h (with_closed h place c why.Gone) (frame (header.Gone place) [] ∷ []) []
+  goes-left =
+      goes-at (λ h. (takes_frames h.phase ≡ true) × (client_at h place ≡ Some c)) (λ h. with_closed h place c why.Gone)
+      (frame (header.Gone place) [] ∷ []) (λ _. []) h (open_still, there)
+      (λ w p. went w (after_frame w (frame (header.Gone place) []) (with_closed w.hub place c why.Gone))
+      (frame (header.Gone place) [] ∷ []) [] (left place c p.0 p.1 whole) refl (sym (append-nil w.outputs)))
 
-pub goes-left : (h : HubValue) (place : ℕ) (c : ClientValue) → client_at h place ≡ Some c → c.closing ≡ None
-    → Goes h (with_client h place (Some (closed_for c why.Gone))) (frame (header.Gone place) [] ∷ []) []
-goes-left h place c there whole =
-    goes-at (λ h. client_at h place ≡ Some c) (λ h. with_client h place (Some (closed_for c why.Gone)))
-    (frame (header.Gone place) [] ∷ []) (λ _. []) h there
-    (λ w p. went w (after_frame w (frame (header.Gone place) []) (with_client w.hub place (Some (closed_for c why.Gone))))
-    (frame (header.Gone place) [] ∷ []) [] (left place c p whole) refl (sym (append-nil w.outputs)))
+pub goes-past : (h : HubValue) (f : Frame) → takes_frames h.phase ≡ true → IsNothing h f.header → Goes h h (f ∷ []) []
+goes-past h f open_still is =
+    goes-at (λ h. (takes_frames h.phase ≡ true) × IsNothing h f.header) (λ h. h) (f ∷ []) (λ _. []) h (open_still, is)
+    (λ w p. went w (after_frame w f w.hub) (f ∷ []) [] (passed_over f p.0 p.1) refl (sym (append-nil w.outputs)))
 
-pub goes-closing : (h : HubValue) (place : ℕ) (c : ClientValue) (reason : Why) → client_at h place ≡ Some c → c.closing ≡ None
-    → IsCause h place c reason → Goes h (with_client h place (Some (closed_for c reason))) [] []
-goes-closing h place c reason there whole cause =
-    goes-at (λ h. (client_at h place ≡ Some c) × IsCause h place c reason) (λ h. with_client h place (Some (closed_for c reason)))
-    [] (λ _. []) h (there, cause)
-    (λ w p. went w (record w { hub = with_client w.hub place (Some (closed_for c reason)) }) [] []
-    (to_be_closed place c reason p.0 whole p.1) (sym (append-nil w.inputs)) (sym (append-nil w.outputs)))
+module _ (h : HubValue) (place : ℕ) (c : ClientValue) (takes_still : takes_lines h.phase ≡ true) (there : client_at h place ≡ Some c)
+    (whole : c.closing ≡ None) where
+  pub goes-long : MOST_LINE ≤ length c.coming → All (λ byte. (byte == 10) ≡ false) (take MOST_LINE c.coming)
+      → Goes h (with_closed h place c why.Long) [] []
+  goes-long long none =
+      goes-at (λ h. (takes_lines h.phase ≡ true) × (client_at h place ≡ Some c)) (λ h. with_closed h place c why.Long)
+      [] (λ _. []) h (takes_still, there)
+      (λ w p. went w (record w { hub = with_closed w.hub place c why.Long }) [] []
+      (too_long place c p.0 p.1 whole long none) (sym (append-nil w.inputs)) (sym (append-nil w.outputs)))
 
-pub goes-desk : (h : HubValue) (place : ℕ) (c : ClientValue) (d : ℕ) (r : RegisterValue) → client_at h place ≡ Some c → c.desk ≡ None
-    → (spare : Option ℕ) → IsSpare h.register h.clients spare → Joins spare h.register c.name r d
-    → Goes h (record (with_client h place (Some (joined_as c d (desk_at r d).next))) { register = r }) [] []
-goes-desk h place c d r there none spare is_spare joins =
-    goes-at (λ h. (client_at h place ≡ Some c) × IsSpare h.register h.clients spare × Joins spare h.register c.name r d)
-    (λ h. record (with_client h place (Some (joined_as c d (desk_at r d).next))) { register = r }) [] (λ _. []) h (there, is_spare, joins)
-    (λ w p. went w (record w { hub = record (with_client w.hub place (Some (joined_as c d (desk_at r d).next))) { register = r } }) [] []
-    (becomes_desk place c d r p.0 none spare p.1 p.2) (sym (append-nil w.inputs)) (sym (append-nil w.outputs)))
+  -- the hub once a client is a desk
+  abbrev pub desked : HubValue → ℕ → RegisterValue → HubValue
+  desked h d r = record h {
+    clients = alone h.clients place (joined_as c d (desk_at r d).next) (Some d);
+    register = r;
+    phase = phase.Answering;
+  }
 
-pub goes-line : (h : HubValue) (place : ℕ) (c c' : ClientValue) (line rest : List ℕ) (r : RegisterValue) (how : How) (text : List ℕ)
-    → client_at h place ≡ Some c → c.closing ≡ None → h.phase ≢ phase.Asked → c.coming ≡ line ++ 10 ∷ rest
-    → All (λ byte. (byte == 10) ≡ false) line → length line < MOST_LINE → (spare : Option ℕ)
-    → (c.desk ≡ None → IsSpare h.register h.clients spare) → TakesLine spare h.register c line rest r c' how text
-    → Goes h (record (with_client h place (Some c')) { register = r; phase = phase.Answering }) [] []
-goes-line h place c c' line rest r how text there whole unasked is none short spare is_spare takes =
-    goes-at (λ h. (client_at h place ≡ Some c) × (h.phase ≢ phase.Asked) × (c.desk ≡ None → IsSpare h.register h.clients spare)
-    × TakesLine spare h.register c line rest r c' how text)
-    (λ h. record (with_client h place (Some c')) { register = r; phase = phase.Answering }) [] (λ _. []) h (there, unasked, is_spare, takes)
-    (λ w p. went w (with_answered w place r c' (exchange_of r c c' line how text)) [] []
-    (line_taken place c c' line rest r how text p.0 whole p.1 is none short spare p.2 p.3) (sym (append-nil w.inputs)) (sym (append-nil w.outputs)))
+  pub goes-desk : (line rest : List ℕ) (d : ℕ) (r : RegisterValue) → c.desk ≡ None → c.coming ≡ line ++ 10 ∷ rest
+      → All (λ byte. (byte == 10) ≡ false) line → IsNoGreeting (asked_in line) → (spare : Option ℕ) → IsSpare h.register h.clients spare
+      → Joins spare h.register c.name r d → Goes h (desked h d r) [] []
+  goes-desk line rest d r none is unended plain spare is_spare joins =
+      goes-at (λ h. (takes_lines h.phase ≡ true) × (client_at h place ≡ Some c) × IsSpare h.register h.clients spare
+      × Joins spare h.register c.name r d) (λ h. desked h d r) [] (λ _. []) h (takes_still, there, is_spare, joins)
+      (λ w p. went w (with_desk w place c d r) [] []
+      (becomes_desk place c line rest d r p.0 p.1 whole none is unended plain spare p.2 p.3) (sym (append-nil w.inputs))
+      (sym (append-nil w.outputs)))
 
-pub goes-asked : (h : HubValue) → h.phase ≢ phase.Asked
+  pub goes-line : (c' : ClientValue) (line rest : List ℕ) (r : RegisterValue) (how : How) (text : List ℕ) → c.coming ≡ line ++ 10 ∷ rest
+      → All (λ byte. (byte == 10) ≡ false) line → length line < MOST_LINE → (spare : Option ℕ)
+      → (c.desk ≡ None → IsSpare h.register h.clients spare) → TakesLine spare h.register c line rest r c' how text
+      → Goes h (record h { clients = seated_after h.clients place c.desk c'; register = r; phase = phase.Answering }) [] []
+  goes-line c' line rest r how text is none short spare is_spare takes =
+      goes-at (λ h. (takes_lines h.phase ≡ true) × (client_at h place ≡ Some c) × (c.desk ≡ None → IsSpare h.register h.clients spare)
+      × TakesLine spare h.register c line rest r c' how text)
+      (λ h. record h { clients = seated_after h.clients place c.desk c'; register = r; phase = phase.Answering }) [] (λ _. []) h
+      (takes_still, there, is_spare, takes)
+      (λ w p. went w (with_answered w place r c.desk c' (exchange_of r c c' line how text)) [] []
+      (line_taken place c c' line rest r how text p.0 p.1 whole is none short spare p.2 p.3) (sym (append-nil w.inputs))
+      (sym (append-nil w.outputs)))
+
+pub goes-asked : (h : HubValue) → h.phase ≡ phase.Answering → OfEach HadTurn h
     → Goes h (record h { register = record h.register { text = [] }; phase = phase.Asked }) [] (keep h.register.text ∷ [])
-goes-asked h unasked =
-    goes-at (λ h. h.phase ≢ phase.Asked) (λ h. record h { register = record h.register { text = [] }; phase = phase.Asked }) []
-    (λ h. keep h.register.text ∷ []) h unasked
+goes-asked h answering turns =
+    goes-at (λ h. (h.phase ≡ phase.Answering) × OfEach HadTurn h)
+    (λ h. record h { register = record h.register { text = [] }; phase = phase.Asked }) [] (λ h. keep h.register.text ∷ []) h (answering, turns)
     (λ w p. went w
     (after_output w (keep w.hub.register.text) (record w.hub { register = record w.hub.register { text = [] }; phase = phase.Asked })) []
-    (keep w.hub.register.text ∷ []) (asked_to_keep p) (sym (append-nil w.inputs)) refl)
+    (keep w.hub.register.text ∷ []) (asked_to_keep p.0 p.1) (sym (append-nil w.inputs)) refl)
 
-pub goes-kept : (h : HubValue) → h.phase ≡ phase.Asked → Goes h (record h { phase = phase.Settled }) (frame header.Kept [] ∷ []) []
+pub goes-kept : (h : HubValue) → h.phase ≡ phase.Asked → Goes h (record h { phase = phase.Telling }) (frame header.Kept [] ∷ []) []
 goes-kept h is =
-    goes-at (λ h. h.phase ≡ phase.Asked) (λ h. record h { phase = phase.Settled }) (frame header.Kept [] ∷ []) (λ _. []) h is
-    (λ w p. went w (record (after_frame w (frame header.Kept []) (record w.hub { phase = phase.Settled })) { safe = length w.answered })
+    goes-at (λ h. h.phase ≡ phase.Asked) (λ h. record h { phase = phase.Telling }) (frame header.Kept [] ∷ []) (λ _. []) h is
+    (λ w p. went w (record (after_frame w (frame header.Kept []) (record w.hub { phase = phase.Telling })) { safe = length w.answered })
     (frame header.Kept [] ∷ []) [] (said_to_be_kept p) refl (sym (append-nil w.outputs)))
 
-pub goes-told : (h : HubValue) (place : ℕ) (c : ClientValue) → client_at h place ≡ Some c → h.phase ≡ phase.Settled
+pub goes-told : (h : HubValue) (place : ℕ) (c : ClientValue) → client_at h place ≡ Some c → h.phase ≡ phase.Telling
     → Goes h (with_client h place (Some (after_telling c))) [] (send place c.used c.told ∷ [])
-goes-told h place c there settled =
-    goes-at (λ h. (client_at h place ≡ Some c) × (h.phase ≡ phase.Settled)) (λ h. with_client h place (Some (after_telling c))) []
-    (λ _. send place c.used c.told ∷ []) h (there, settled)
+goes-told h place c there telling =
+    goes-at (λ h. (client_at h place ≡ Some c) × (h.phase ≡ phase.Telling)) (λ h. with_client h place (Some (after_telling c))) []
+    (λ _. send place c.used c.told ∷ []) h (there, telling)
     (λ w p. went w (record (after_output w (send place c.used c.told) (with_client w.hub place (Some (after_telling c)))) {
       sent = at_one w.sent c.serial (w.sent c.serial ++ c.told);
+      used = at_one w.used c.serial (w.used c.serial + c.used);
     }) [] (send place c.used c.told ∷ []) (was_told place c p.0 p.1) (sym (append-nil w.inputs)) refl)
 
 pub goes-closed : (h : HubValue) (place : ℕ) (c : ClientValue) (reason : Why) → client_at h place ≡ Some c → c.closing ≡ Some reason
-    → h.phase ≡ phase.Settled → Goes h (with_client h place None) [] (close place reason ∷ [])
-goes-closed h place c reason there is settled =
-    goes-at (λ h. (client_at h place ≡ Some c) × (h.phase ≡ phase.Settled)) (λ h. with_client h place None) []
-    (λ _. close place reason ∷ []) h (there, settled)
+    → c.told ≡ [] → c.used ≡ 0 → h.phase ≡ phase.Telling → Goes h (with_client h place None) [] (close place reason ∷ [])
+goes-closed h place c reason there is told used telling =
+    goes-at (λ h. (client_at h place ≡ Some c) × (h.phase ≡ phase.Telling)) (λ h. with_client h place None) []
+    (λ _. close place reason ∷ []) h (there, telling)
     (λ w p. went w (after_output w (close place reason) (with_client w.hub place None)) [] (close place reason ∷ [])
-    (was_closed place c reason p.0 is p.1) (sym (append-nil w.inputs)) refl)
+    (was_closed place c reason p.0 is told used p.1) (sym (append-nil w.inputs)) refl)
+
+pub goes-settled : (h : HubValue) → h.phase ≡ phase.Telling → OfEach IsTold h → Goes h (record h { phase = phase.Settled }) [] []
+goes-settled h telling told =
+    goes-at (λ h. (h.phase ≡ phase.Telling) × OfEach IsTold h) (λ h. record h { phase = phase.Settled }) [] (λ _. []) h (telling, told)
+    (λ w p. went w (record w { hub = record w.hub { phase = phase.Settled } }) [] [] (all_told p.0 p.1) (sym (append-nil w.inputs))
+    (sym (append-nil w.outputs)))
+
+pub goes-ended : (h : HubValue) → h.phase ≢ phase.Telling → Goes h (record h { phase = phase.Ended }) (frame header.End [] ∷ []) []
+goes-ended h untelling =
+    goes-at (λ h. h.phase ≢ phase.Telling) (λ h. record h { phase = phase.Ended }) (frame header.End [] ∷ []) (λ _. []) h untelling
+    (λ w p. went w (after_frame w (frame header.End []) (record w.hub { phase = phase.Ended })) (frame header.End [] ∷ []) [] (ended p) refl
+    (sym (append-nil w.outputs)))

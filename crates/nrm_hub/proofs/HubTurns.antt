@@ -18,18 +18,18 @@ hears-used : (old : ClientValue) (text : List ℕ) (new : ClientValue) → Hears
 hears-used old text new whole = refl
 hears-used old text new (cut count few) = refl
 
-line-used : {spare : Option ℕ} (r : RegisterValue) (c : ClientValue) (bytes rest : List ℕ) (r' : RegisterValue) (c' : ClientValue) (how : How) (text : List ℕ)
+pub line-used : {spare : Option ℕ} (r : RegisterValue) (c : ClientValue) (bytes rest : List ℕ) (r' : RegisterValue) (c' : ClientValue) (how : How) (text : List ℕ)
     → TakesLine spare r c bytes rest r' c' how text → c'.used ≡ c.used + (length bytes + 1)
 line-used r c bytes rest r' c' how text (greets name number mid d n after first asked_is may joins is hears) = hears-used _ _ after hears
 line-used r c bytes rest r' c' how text (may_not_greet name number after first asked may hears) = hears-used _ _ after hears
-line-used r c bytes rest r' c' how text (lacks_memory after first hears) = hears-used _ _ after hears
-line-used r c bytes rest r' c' how text (too_many first many none) = refl
+line-used r c bytes rest r' c' how text (lacks_memory after first new hears) = hears-used _ _ after hears
+line-used r c bytes rest r' c' how text (too_many first new many none) = refl
 line-used r c bytes rest r' c' how text (answers d mid after done told is given hears) = hears-used _ _ after hears
 line-used r c bytes rest r' c' how text (refuses d reason is given) = refl
 
 begins-used : {spare : Option ℕ} (r r' : RegisterValue) (c c' : ClientValue) (end : ℕ) → Begins spare r r' c c' end → 0 < c'.used
 begins-used r r' c c' end (taken its) = omega (arith, line-used r c _ _ r' c' its.how its.text its.takes)
-begins-used r r' c c' end (joined mid d first joins its) = omega (arith, line-used mid _ _ _ r' c' its.how its.text its.takes)
+begins-used r r' c c' end (joined mid d first plain joins its) = omega (arith, line-used mid _ _ _ r' c' its.how its.text its.takes)
 
 closing-had : (x : ClientValue) (r : _) → x.closing ≡ Some r → HadTurn x
 closing-had x r is = inr (inl (λ none. cc))

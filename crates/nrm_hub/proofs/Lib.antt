@@ -24,4 +24,7 @@ pub mod Registers  -- what a register represents in every world
 pub mod HubSteps
 pub mod HubTurns  -- what a turn leaves of a client
 pub mod DuePlaces  -- the places at which something is due, as clients change
+pub mod HubInvariants  -- what holds of each hub, as its clients and what is awaited change
+pub mod Phases  -- what a step does to what is awaited
+pub mod Unseated  -- clients that are to be closed, since another client is their desk
 mod Examples  -- worked by hand

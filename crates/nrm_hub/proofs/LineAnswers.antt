@@ -123,6 +123,6 @@ pub answers-carried : (r r' : RegisterValue) (rights : Rights) (d n : ℕ) (line
     → asked_in line ≡ asked.Says c → allows rights r.owners d c ≡ true → is_change c ≡ true → (desk_at r d).next ≤ n → r.rows < MOST_ROWS
     → CarriesOut r r' d n c a → (how : How) × Answers r rights d n line r' how (text_of (reply_in r'.control a))
 answers-carried r r' rights d n line c _ says allowed changes new room (ran_out passes) =
-    (passed c memory, runs_out c r' says allowed changes passes)
+    (passed c memory, runs_out c r' says allowed changes new room passes)
 answers-carried r r' rights d n line c _ says allowed changes new room (with_its_row a row carries) =
     (carried c (reply_in r'.control a), is_carried c r' a says allowed changes new room carries)

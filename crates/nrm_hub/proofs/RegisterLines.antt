@@ -1,7 +1,7 @@
 -- What a register has after a line of a client.
 use Rattle.std.proofs.Common.{ℕ, ◌≡◌, ◌∙◌, ◌+◌, ◌<◌, ◌≤◌, true, List, [], ◌∷◌, ◌++◌, length, get_or, Option, Some, None, refl, sym, ap, subst, arith}
 use Rattle.std.proofs.Common.{append-nil, length-set}
-use Rattle.std.specs.Prelude.{⊤}
+use Rattle.std.specs.Prelude.{⊤, option_map}
 use Rattle.std.proofs.lemmas.List.{get_or-set_same}
 use Rattle.nrm_control.specs.State.{SeatState}
 use Rattle.nrm_control.specs.Standing.{ControlValue, Represents}
@@ -12,9 +12,10 @@ use Rattle.nrm_session.specs.Replies.{Reply, memory, text_of}
 use Rattle.nrm_session.specs.declared.reply.Reply.{Reply as Answered}
 use Rattle.nrm_hub.specs.Asked.{asked_in, is_change}
 use Rattle.nrm_hub.specs.Clients.{ClientValue, Hears, after_line, cut, joined_as, whole}
-use Rattle.nrm_hub.specs.Desks.{RepeatsIts, Turn, entry_of, turn_of}
+use Rattle.nrm_hub.specs.Hub.{unseated}
+use Rattle.nrm_hub.specs.Desks.{HasItsReply, Turn, entry_of, turn_of}
 use Rattle.nrm_hub.specs.Lines.{Answers, How, asks, carried, greets_late, is_carried, is_denied, lacks, looks, may_not_ask, otherwise, passed, repeated}
-use Rattle.nrm_hub.specs.Lines.{at_line, denied_line, is_same, memory_line, repeats, row_under, runs_out}
+use Rattle.nrm_hub.specs.Lines.{at_line, denied_line, is_same, memory_line, repeats, row_under, runs_out, told_text}
 use Rattle.nrm_hub.specs.Register.{Carries, DeskValue, Passes, RegisterValue, desk_at, name_at, new_desk, with_row}
 use Rattle.nrm_hub.specs.Rows.{Entry, row_text, rows_text}
 use Rattle.nrm_hub.specs.Taking.{TakesLine, answers, greets, lacks_memory, may_not_greet, refuses, too_many}
@@ -22,6 +23,7 @@ use Rattle.nrm_hub.specs.World.{Exchange, desk_name, exchange_of}
 use Rattle.nrm_hub.specs.declared.asked.Asked.TheVariants as asked
 use Rattle.nrm_hub.specs.declared.row.Row.{Row}
 use Rattle.nrm_hub.proofs.RegisterLists.{among-longer, row-found, same-command}
+use Rattle.nrm_hub.proofs.Unseated.{unseated-desk}
 use Rattle.nrm_hub.proofs.RegisterFits.{IsUnused, FitsIn, IsOfRows, fits-carried, fits-joined, fits-passed, joined}
 
 -- ---- seats
@@ -43,6 +45,11 @@ pub seated-more : (c : Option ClientValue) (n m : ℕ) → n ≤ m → IsSeated 
 seated-more None n m more is = tt
 seated-more (Some c) n m more is = below-more c.desk n m more is
 
+-- who is to be closed since another client is the desk has the desk that it had
+pub unseated-seated : (desk count : ℕ) (o : Option ClientValue) → IsSeated count o → IsSeated count (option_map (unseated desk) o)
+unseated-seated desk count None is = tt
+unseated-seated desk count (Some c) is = subst (λ (o : Option ℕ). IsBelow o count) (sym (unseated-desk desk c)) is
+
 -- a client that hears a text is the desk that it was
 pub hears-desk : (old new : ClientValue) (text : List ℕ) → Hears old text new → new.desk ≡ old.desk
 hears-desk old _ text whole = refl
@@ -51,7 +58,7 @@ hears-desk old _ text (cut count short) = refl
 -- ---- what became of a line, as it is in common
 pub record Became (start : ControlValue) (r r' : RegisterValue) (rows : List Entry) (turns : List Turn) (e : Exchange) : Type 0 where
   pub fits : FitsIn start r' (rows ++ (entry_of e ++ [])) (turns ++ (turn_of e ++ []))
-  pub repeats_its : RepeatsIts (rows ++ (entry_of e ++ [])) e e.how
+  pub has_its : HasItsReply (rows ++ (entry_of e ++ [])) e e.how
   pub text : r'.text ≡ r.text ++ rows_text (length rows) (entry_of e ++ [])
   pub longer : length r.desks ≤ length r'.desks
 
@@ -66,34 +73,34 @@ module _ (start : ControlValue) (begun : (s : SeatState) × Represents start s) 
   became-otherwise r' client n desk line text fits same longer = record {
     fits = subst (λ (l : List Entry). FitsIn start r' l (turns ++ [])) (sym (append-nil rows))
         (subst (λ (l : List Turn). FitsIn start r' rows l) (sym (append-nil turns)) fits);
-    repeats_its = tt;
+    has_its = tt;
     text = same ∙ sym (append-nil r.text);
     longer = longer;
   }
 
-  became-passed : (r' : RegisterValue) (client n : ℕ) (desk line text : List ℕ) (c : Command) (reply : Reply) → Passes r r' c reply
-      → Became start r r' rows turns (said client desk n line (passed c reply) text)
-  became-passed r' client n desk line text c reply passes =
+  became-passed : (r' : RegisterValue) (client n : ℕ) (desk line : List ℕ) (c : Command) (reply : Reply) → asked_in line ≡ asked.Says c
+      → Passes r r' c reply → Became start r r' rows turns (said client desk n line (passed c reply) (told_text reply))
+  became-passed r' client n desk line c reply is passes =
       let desks : length r'.desks ≡ length r.desks = ap (λ (x : RegisterValue). length x.desks) passes.rest in
       record {
         fits = subst (λ (l : List Entry). FitsIn start r' l (turns ++ (c, reply) ∷ [])) (sym (append-nil rows))
             (fits-passed start r r' c reply rows turns f passes);
-        repeats_its = tt;
+        has_its = (is, refl);
         text = ap (λ (x : RegisterValue). x.text) passes.rest ∙ sym (append-nil r.text);
         longer = omega (arith, desks);
       }
 
-  became-carried : (r' : RegisterValue) (client d n : ℕ) (line text : List ℕ) (c : Command) (a : Answered) → d < length r.desks
-      → is_change c ≡ true → (desk_at r d).next ≤ n → Carries r r' d n c a
-      → Became start r r' rows turns (said client (name_at r d) n line (carried c (reply_in r'.control a)) text)
-  became-carried r' client d n line text c a within changes above carries =
+  became-carried : (r' : RegisterValue) (client d n : ℕ) (line : List ℕ) (c : Command) (a : Answered) → d < length r.desks
+      → asked_in line ≡ asked.Says c → is_change c ≡ true → (desk_at r d).next ≤ n → Carries r r' d n c a
+      → Became start r r' rows turns (said client (name_at r d) n line (carried c (reply_in r'.control a)) (text_of (reply_in r'.control a)))
+  became-carried r' client d n line c a within is changes above carries =
       let row : Row = record { sequence = n; command = c; reply = a } in
       let desks : length r'.desks ≡ length r.desks =
       ap (λ (l : List DeskValue). length l) carries.desks ∙ length-set r.desks d (with_row (desk_at r d) row) in
       let text_at : ℕ → List ℕ = λ k. row_text (k + 1) (name_at r d) n c (reply_in r'.control a) in
       record {
         fits = fits-carried start begun r r' d n c a rows turns f within changes above carries;
-        repeats_its = tt;
+        has_its = (is, refl);
         text = carries.text ∙ ap (λ (t : List ℕ). r.text ++ t) (ap text_at f.counted ∙ sym (append-nil (text_at (length rows))));
         longer = omega (arith, desks);
       }
@@ -109,7 +116,7 @@ module _ (start : ControlValue) (begun : (s : SeatState) × Represents start s) 
       record {
         fits = subst (λ (l : List Entry). FitsIn start r l (turns ++ [])) (sym (append-nil rows))
             (subst (λ (l : List Turn). FitsIn start r rows l) (sym (append-nil turns)) f);
-        repeats_its = (
+        has_its = (
           of_rows.entry,
           among-longer of_rows.entry rows [] of_rows.among,
           of_rows.desk,
@@ -132,13 +139,13 @@ module _ (start : ControlValue) (begun : (s : SeatState) × Represents start s) 
   became-answered client d n rights line _ _ _ within (is_denied c is may) =
       became-otherwise r client n (name_at r d) line _ f refl (omega arith)
   became-answered client d n rights line _ _ _ within (is_carried c r' a is may changes above few carries) =
-      became-carried r' client d n line _ c a within changes above carries
-  became-answered client d n rights line _ _ _ within (runs_out c r' is may changes passes) =
-      became-passed r' client n (name_at r d) line _ c memory passes
-  became-answered client d n rights line _ _ _ within (lacks c is may changes) =
+      became-carried r' client d n line c a within is changes above carries
+  became-answered client d n rights line _ _ _ within (runs_out c r' is may changes above few passes) =
+      became-passed r' client n (name_at r d) line c memory is passes
+  became-answered client d n rights line _ _ _ within (lacks c is may changes above few) =
       became-otherwise r client n (name_at r d) line _ f refl (omega arith)
   became-answered client d n rights line _ _ _ within (looks c r' reply is may changes passes) =
-      became-passed r' client n (name_at r d) line _ c reply passes
+      became-passed r' client n (name_at r d) line c reply is passes
   became-answered client d n rights line _ _ _ within (repeats c row is may changes used under same) =
       became-repeated client d n line c row is under same
 
@@ -153,9 +160,9 @@ module _ (start : ControlValue) (begun : (s : SeatState) × Represents start s) 
       let row : Row = record { sequence = n; command = c; reply = a } in
       ap (λ (l : List DeskValue). (get_or l d (new_desk [])).name) carries.desks
       ∙ ap (λ (desk : DeskValue). desk.name) (get_or-set_same r.desks d (with_row (desk_at r d) row) (new_desk []) within)
-  name-kept d n rights line _ _ _ within (runs_out c r' is may changes passes) =
+  name-kept d n rights line _ _ _ within (runs_out c r' is may changes above few passes) =
       ap (λ (x : RegisterValue). name_at x d) passes.rest
-  name-kept d n rights line _ _ _ within (lacks c is may changes) = refl
+  name-kept d n rights line _ _ _ within (lacks c is may changes above few) = refl
   name-kept d n rights line _ _ _ within (looks c r' reply is may changes passes) =
       ap (λ (x : RegisterValue). name_at x d) passes.rest
   name-kept d n rights line _ _ _ within (repeats c row is may changes used under same) = refl
@@ -176,11 +183,11 @@ module _ (start : ControlValue) (begun : (s : SeatState) × Represents start s) 
     became-otherwise r c.serial c.number (desk_name r c'.desk) line denied_line f refl (omega arith),
     subst (λ (o : Option ℕ). IsBelow o (length r.desks)) (sym (hears-desk (after_line c line rest) c' denied_line hears)) seat,
   )
-  became-taken c line rest _ _ _ _ seat spare unused (lacks_memory c' no_desk hears) = (
+  became-taken c line rest _ _ _ _ seat spare unused (lacks_memory c' no_desk new hears) = (
     became-otherwise r c.serial c.number (desk_name r c'.desk) line memory_line f refl (omega arith),
     subst (λ (o : Option ℕ). IsBelow o (length r.desks)) (sym (hears-desk (after_line c line rest) c' memory_line hears)) seat,
   )
-  became-taken c line rest _ _ _ _ seat spare unused (too_many no_desk many none) =
+  became-taken c line rest _ _ _ _ seat spare unused (too_many no_desk new many none) =
       (became-otherwise r c.serial c.number (desk_name r c.desk) line [] f refl (omega arith), seat)
   became-taken c line rest _ _ _ _ seat spare unused (answers d r' c' how text is_desk told hears) =
       let kept : c'.desk ≡ c.desk = hears-desk (record (after_line c line rest) { number = c.number + 1 }) c' text hears in

@@ -38,8 +38,8 @@ answers-idle r rights d n line _ _ _ (asks name is may) = tt
 answers-idle r rights d n line _ _ _ (may_not_ask name is may) = tt
 answers-idle r rights d n line _ _ _ (is_denied c is may) = tt
 answers-idle r rights d n line _ _ _ (is_carried c r' a is may changes above few carries) = tt
-answers-idle r rights d n line _ _ _ (runs_out c r' is may changes passes) = inr refl
-answers-idle r rights d n line _ _ _ (lacks c is may changes) = tt
+answers-idle r rights d n line _ _ _ (runs_out c r' is may changes above few passes) = inr refl
+answers-idle r rights d n line _ _ _ (lacks c is may changes above few) = tt
 answers-idle r rights d n line _ _ _ (looks c r' reply is may changes passes) = inl changes
 answers-idle r rights d n line _ _ _ (repeats c row is may changes used under same) = tt
 
@@ -47,8 +47,8 @@ takes-idle : {spare : Option ℕ} (r : RegisterValue) (c : ClientValue) (line re
     → TakesLine spare r c line rest r' c' how text → IsIdle how
 takes-idle r c line rest _ _ _ _ (greets name number r' d n c' no_desk is may joins n_is hears) = tt
 takes-idle r c line rest _ _ _ _ (may_not_greet name number c' no_desk is may hears) = tt
-takes-idle r c line rest _ _ _ _ (lacks_memory c' no_desk hears) = tt
-takes-idle r c line rest _ _ _ _ (too_many no_desk many none) = tt
+takes-idle r c line rest _ _ _ _ (lacks_memory c' no_desk new hears) = tt
+takes-idle r c line rest _ _ _ _ (too_many no_desk new many none) = tt
 takes-idle r c line rest _ _ _ _ (answers d r' c' how text is_desk told hears) = answers-idle r c.rights d c.number line r' how text told
 takes-idle r c line rest _ _ _ _ (refuses d reason is_desk refused) = tt
 
@@ -56,7 +56,7 @@ abbrev AreIdle : List Exchange → Type 0
 AreIdle answered = All (λ (e : Exchange). IsIdle e.how) answered
 
 idle-on : (w w' : World) → AreIdle w.answered → Happens w w' → AreIdle w'.answered
-idle-on w _ idle (line_taken place c c' line rest r how text at open_still not_asked coming unended short spare is_spare takes) =
+idle-on w _ idle (line_taken place c c' line rest r how text lines at open_still coming unended short spare is_spare takes) =
     All-push (λ (e : Exchange). IsIdle e.how) w.answered (exchange_of r c c' line how text) idle
     (takes-idle w.hub.register c line rest r c' how text takes)
 idle-on w w' idle happens = idle

@@ -8,7 +8,7 @@ use Rattle.nrm_stream.specs.declared.command.Command.{Command}
 use Rattle.nrm_session.specs.Answering.{reply_in}
 use Rattle.nrm_session.specs.declared.reply.Reply.{Reply as Answered}
 use Rattle.nrm_hub.specs.Asked.{is_change}
-use Rattle.nrm_hub.specs.Register.{Carries, Joins, RegisterValue, desk_at}
+use Rattle.nrm_hub.specs.Register.{Carries, Joins, RegisterValue, desk_at, desk_named}
 use Rattle.nrm_hub.specs.Rows.{Entry, row_text, rows_text}
 use Rattle.nrm_hub.specs.World.{GivesAgain}
 use Rattle.nrm_hub.specs.declared.again.AgainFault.{AgainFault}
@@ -47,12 +47,12 @@ pub data IsNotNext (r : RegisterValue) (row : RowRead) : Type 0 where
   other_number : row.number ≢ r.rows + 1 → IsNotNext r row
   used : (joined : RegisterValue) (d : ℕ) → Joins None r row.name joined d → row.sequence < (desk_at joined d).next → IsNotNext r row
   many_rows : MOST_ROWS ≤ r.rows → IsNotNext r row
-  many_desks : MOST_DESKS ≤ length r.desks → IsNotNext r row
+  many_desks : desk_named r row.name ≡ None → MOST_DESKS ≤ length r.desks → IsNotNext r row
 
 -- Why the bytes behind some rows aren't given again: no whole line stands there, or it is no row, or not the next one; or it was carried out, and
 -- the row that this gives is another one; or memory runs out.
 pub data StopsAt (r : RegisterValue) (rest : List ℕ) : AgainFault → Type 0 where
-  unended : All (λ c. (c == 10) ≡ false) rest → StopsAt r rest (fault.NoRow (r.rows + 1))
+  unended : rest ≢ [] → All (λ c. (c == 10) ≡ false) rest → StopsAt r rest (fault.NoRow (r.rows + 1))
   no_row : (line behind : List ℕ) → rest ≡ line ++ 10 ∷ behind → row_of line ≡ None → StopsAt r rest (fault.NoRow (r.rows + 1))
   not_next : (line behind : List ℕ) (row : RowRead) → rest ≡ line ++ 10 ∷ behind → row_of line ≡ Some row → IsNotNext r row
       → StopsAt r rest (fault.NoRow (r.rows + 1))

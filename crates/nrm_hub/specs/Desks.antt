@@ -1,24 +1,29 @@
 -- The theorem of many desks, to be read aloud.
-use Rattle.std.specs.Prelude.{ℕ, ◌≡◌, ◌==◌, ◌<◌, ◌≤◌, false, List, [], ◌∷◌, ◌++◌, AllPairs, All, filter, flat_map, length, map, take, ⊤}
+use Rattle.std.specs.Prelude.{ℕ, ◌≡◌, ◌==◌, ◌+◌, ◌<◌, ◌≤◌, Bool, true, false, List, [], ◌∷◌, ◌++◌, AllPairs, All, filter, flat_map, length, map, take, Option, Some, None, ⊤}
 use Rattle.nrm_model.specs.Network.{NetworkValue}
 use Rattle.nrm_control.specs.State.{SeatState}
 use Rattle.nrm_control.specs.Standing.{ControlValue, IsControl, Represents}
-use Rattle.nrm_frames.specs.Outgoing.{Output, close, differs, keep, no_row, ready, send}
+use Rattle.nrm_frames.specs.Outgoing.{Output, keep}
 use Rattle.nrm_frames.specs.Frames.{Frame}
 use Rattle.nrm_frames.specs.declared.header.Header.{Header}
 use Rattle.nrm_frames.specs.declared.header.Header.TheVariants as header
 use Rattle.nrm_stream.specs.Lines.{whole_lines}
 use Rattle.nrm_stream.specs.declared.command.Command.{Command}
-use Rattle.nrm_session.specs.Replies.{Reply, bad, cancelled, hindsight_told, leg_told, memory, no_fare, no_leg, optimised, optimised_none, overflow, plan_told, sold}
-use Rattle.nrm_session.specs.Replies.{text_of, unknown}
+use Rattle.nrm_session.specs.Replies.{Reply, sold, text_of}
 use Rattle.nrm_session.specs.Run.{Run}
 use Rattle.nrm_hub.specs.Asked.{allows, asked_in}
-use Rattle.nrm_frames.specs.declared.rights.Rights.{Rights}
-use Rattle.nrm_hub.specs.Lines.{Answers, How, carried, denied_line, otherwise, passed, repeated}
+use Rattle.nrm_hub.specs.Clients.{ClientValue}
+use Rattle.nrm_hub.specs.Hub.{client_at}
+use Rattle.nrm_hub.specs.Lines.{How, carried, denied_line, otherwise, passed, repeated, told_text}
 use Rattle.nrm_hub.specs.Register.{RegisterValue, name_at}
 use Rattle.nrm_hub.specs.Rows.{Entry, rows_text}
+use Rattle.nrm_hub.specs.Taking.{TakesLine, may_greet}
+use Rattle.nrm_hub.specs.Waiting.{IsTold, OfEach}
 use Rattle.nrm_hub.specs.World.{Comes, Exchange, World, beginning}
+use Rattle.nrm_hub.specs.declared.asked.Asked.{Asked}
 use Rattle.nrm_hub.specs.declared.asked.Asked.TheVariants as asked
+use Rattle.nrm_hub.specs.declared.limits.TheConstants.{LAST_SEQUENCE}
+use Rattle.nrm_hub.specs.declared.phase.Phase.TheVariants as phase
 
 abbrev pub IsFrontOf : {A : Type 0} → List A → List A → Type 0
 IsFrontOf front all = (rest : List _) × (all ≡ front ++ rest)
@@ -60,22 +65,14 @@ rows_in w = w.again ++ flat_map entry_of w.answered
 -- the bytes of the rows that were given again and of those that were given out
 abbrev pub rows_again_in : Header → List ℕ → List ℕ
 rows_again_in (header.Again size) payload = payload
-rows_again_in (header.Open place name rights) payload = []
-rows_again_in (header.Came place size) payload = []
-rows_again_in (header.Gone place) payload = []
-rows_again_in header.Kept payload = []
-rows_again_in header.End payload = []
+rows_again_in other payload = []
 
 abbrev pub rows_again : Frame → List ℕ
 rows_again f = rows_again_in f.header f.payload
 
 abbrev pub rows_out : Output → List ℕ
 rows_out (keep rows) = rows
-rows_out (ready count) = []
-rows_out (send place used bytes) = []
-rows_out (close place reason) = []
-rows_out (no_row row) = []
-rows_out (differs row) = []
+rows_out other = []
 
 abbrev pub rows_given : World → List ℕ
 rows_given w = flat_map rows_again w.inputs ++ flat_map rows_out w.outputs
@@ -86,6 +83,9 @@ of_client k answered = filter (λ (e : Exchange). e.client == k) answered
 
 abbrev pub lines_in : List Exchange → List (List ℕ)
 lines_in answered = map (λ (e : Exchange). e.line) answered
+
+abbrev pub bytes_in : List Exchange → List ℕ
+bytes_in answered = flat_map (λ (e : Exchange). e.line ++ 10 ∷ []) answered
 
 abbrev pub told_in : List Exchange → List ℕ
 told_in answered = flat_map (λ (e : Exchange). e.text) answered
@@ -108,33 +108,32 @@ pub record SentWhenSafe (w : World) (k : ℕ) : Type 0 where
 abbrev pub NumbersRise : Entry → Entry → Type 0
 NumbersRise earlier later = earlier.desk ≡ later.desk → earlier.sequence < later.sequence
 
--- and a line whose row was there is answered as that row is: it is the desk's own row of that number, and the line is the same
-abbrev pub RepeatsIts : List Entry → Exchange → How → Type 0
-RepeatsIts rows e (repeated row) =
+-- and what a line is told is the reply to the command that it asks: the one that was carried out for it, or the one of the desk's own row of that
+-- number, where that was there
+abbrev pub HasItsReply : List Entry → Exchange → How → Type 0
+HasItsReply rows e (carried c reply) = (asked_in e.line ≡ asked.Says c) × (e.text ≡ text_of reply)
+HasItsReply rows e (passed c reply) = (asked_in e.line ≡ asked.Says c) × (e.text ≡ told_text reply)
+HasItsReply rows e (repeated row) =
     (entry : Entry) × ((before : List Entry) × (after : List Entry) × (rows ≡ before ++ entry ∷ after)) × (entry.desk ≡ e.desk)
     × (entry.sequence ≡ e.sequence) × (asked_in e.line ≡ asked.Says entry.command) × (e.text ≡ text_of entry.reply)
-RepeatsIts rows e (carried c reply) = ⊤
-RepeatsIts rows e (passed c reply) = ⊤
-RepeatsIts rows e otherwise = ⊤
+HasItsReply rows e otherwise = ⊤
 
 -- (f) the desk that a row's booking was sold to, if it was sold
 abbrev pub seller_by : List ℕ → Reply → List (List ℕ)
 seller_by desk (sold number) = desk ∷ []
-seller_by desk bad = []
-seller_by desk unknown = []
-seller_by desk (no_leg name) = []
-seller_by desk no_fare = []
-seller_by desk (cancelled number amount) = []
-seller_by desk (optimised value) = []
-seller_by desk optimised_none = []
-seller_by desk overflow = []
-seller_by desk memory = []
-seller_by desk (hindsight_told value revenue withheld) = []
-seller_by desk (leg_told text) = []
-seller_by desk (plan_told text) = []
+seller_by desk other = []
 
 abbrev pub seller_of : Entry → List (List ℕ)
 seller_of entry = seller_by entry.desk entry.reply
+
+-- Of a client that is there and isn't to be closed: the whole lines that it sent are those that were answered and then those that wait, and the
+-- replies to those that were answered are what was sent to it and then what waits. What came from it are these lines with their ends, whose
+-- bytes were said to be used or will be, and then what waits.
+pub record IsHeard (w : World) (c : ClientValue) : Type 0 where
+  pub lines : whole_lines (w.came c.serial) ≡ lines_in (of_client c.serial w.answered) ++ whole_lines c.coming
+  pub replies : told_in (of_client c.serial w.answered) ≡ w.sent c.serial ++ c.told
+  pub bytes : w.came c.serial ≡ bytes_in (of_client c.serial w.answered) ++ c.coming
+  pub used : w.used c.serial + c.used ≡ length (bytes_in (of_client c.serial w.answered))
 
 -- From the beginning on:
 pub record AreServed (start : ControlValue) (w : World) : Type 0 where
@@ -147,9 +146,12 @@ pub record AreServed (start : ControlValue) (w : World) : Type 0 where
   pub lines : (k : ℕ) → IsFrontOf (lines_in (of_client k w.answered)) (whole_lines (w.came k))
   -- what was sent to it is a front of the replies to these, none of which was sent before its row was said to be kept
   pub sent : (k : ℕ) → SentWhenSafe w k
-  -- of each desk each number is carried out at most once, and a line that comes again gets the reply that it had
+  -- each client that is there is heard; and where no word is awaited all that was answered is kept, and nothing waits to be sent to anybody
+  pub heard : (place : ℕ) (c : ClientValue) → client_at w.hub place ≡ Some c → c.closing ≡ None → IsHeard w c
+  pub settled : w.hub.phase ≡ phase.Settled → (w.safe ≡ length w.answered) × OfEach IsTold w.hub
+  -- of each desk each number is carried out at most once, and what a line is told is the reply to it, also when it comes again
   pub once : AllPairs NumbersRise (rows_in w)
-  pub repeats : All (λ (e : Exchange). RepeatsIts (rows_in w) e e.how) w.answered
+  pub replies : All (λ (e : Exchange). HasItsReply (rows_in w) e e.how) w.answered
   -- and the owners of bookings, by which a desk may cancel its own, are the desks that they were sold to, in order
   pub owners : map (name_at w.hub.register) w.hub.register.owners ≡ flat_map seller_of (rows_in w)
 
@@ -157,10 +159,19 @@ pub record AreServed (start : ControlValue) (w : World) : Type 0 where
 abbrev pub DesksAreServed : Type 0
 DesksAreServed = (start : ControlValue) (w : World) → IsControl start → Comes (beginning start) w → AreServed start w
 
--- (f) A line of a command beyond a client's rights changes nothing at all, and is told so.
+-- whether a client may have a line answered by what it asks: greet by that name, look at what is to be had, or have the command carried out
+abbrev pub is_allowed : RegisterValue → ClientValue → Option ℕ → Asked → Bool
+is_allowed r c None (asked.Greeting name number) = may_greet c name
+is_allowed r c None (asked.Ask product) = true
+is_allowed r c None (asked.Says command) = true
+is_allowed r c (Some d) (asked.Greeting name number) = true
+is_allowed r c (Some d) (asked.Ask product) = c.rights.look
+is_allowed r c (Some d) (asked.Says command) = allows c.rights r.owners d command
+
+-- (f) A line beyond a client's rights changes nothing at all, and is told so, whatever its number within the limits.
 abbrev pub RightsHold : Type 0
-RightsHold = (r r' : RegisterValue) (rights : Rights) (d n : ℕ) (line : List ℕ) (c : Command) (how : How) (text : List ℕ)
-    → asked_in line ≡ asked.Says c → allows rights r.owners d c ≡ false → Answers r rights d n line r' how text
+RightsHold = (spare : Option ℕ) (r : RegisterValue) (c : ClientValue) (line rest : List ℕ) (r' : RegisterValue) (c' : ClientValue) (how : How)
+    (text : List ℕ) → c.number ≤ LAST_SEQUENCE → is_allowed r c c.desk (asked_in line) ≡ false → TakesLine spare r c line rest r' c' how text
     → (r' ≡ r) × (how ≡ otherwise) × (text ≡ denied_line)
 
 -- (e) Two hubs that have the same rows in the same order, whatever else was answered at either, came to the same state from the same one: so

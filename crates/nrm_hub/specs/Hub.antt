@@ -1,7 +1,10 @@
--- The hub: what all desks have in common, the clients by their places, and whether what was answered is safe.
-use Rattle.std.specs.Prelude.{ℕ, ◌++◌, List, [], get_or, slice_set, Option, None}
+-- The hub: what all desks have in common, the clients by their places, and what is awaited.
+use Rattle.std.specs.Prelude.{ℕ, ◌++◌, ◌&&◌, Bool, true, false, not, List, [], get_or, map, option_map, slice_set, Option, Some, None, is_some, if◌then◌else◌}
 use Rattle.nrm_control.specs.Standing.{ControlValue}
-use Rattle.nrm_hub.specs.Clients.{ClientValue}
+use Rattle.nrm_frames.specs.declared.why.Why.{Why}
+use Rattle.nrm_frames.specs.declared.why.Why.TheVariants as why
+use Rattle.nrm_hub.specs.Asked.{is_desk}
+use Rattle.nrm_hub.specs.Clients.{ClientValue, closed_for}
 use Rattle.nrm_hub.specs.Register.{RegisterValue, new_register}
 use Rattle.nrm_hub.specs.declared.phase.Phase.{Phase}
 use Rattle.nrm_hub.specs.declared.phase.Phase.TheVariants as phase
@@ -13,7 +16,7 @@ pub record HubValue : Type 0 where
   pub phase : Phase
 
 abbrev pub new_hub : ControlValue → HubValue
-new_hub control = record { register = new_register control; clients = []; opened = 0; phase = phase.Settled }
+new_hub control = record { register = new_register control; clients = []; opened = 0; phase = phase.Replaying }
 
 -- who is at a place
 abbrev pub client_at : HubValue → ℕ → Option ClientValue
@@ -26,3 +29,39 @@ with_client h place c = record h { clients = slice_set h.clients place c }
 -- places that nobody was at may be added behind the others
 abbrev pub with_places : HubValue → List (Option ClientValue) → HubValue
 with_places h more = record h { clients = h.clients ++ more }
+
+-- frames of clients may come: the journal was given again, what waits for clients isn't being sent, and the last frame didn't come
+abbrev pub takes_frames : Phase → Bool
+takes_frames phase.Settled = true
+takes_frames phase.Answering = true
+takes_frames phase.Asked = true
+takes_frames other = false
+
+-- lines may be taken: neither is the word awaited that all is kept
+abbrev pub takes_lines : Phase → Bool
+takes_lines phase.Settled = true
+takes_lines phase.Answering = true
+takes_lines other = false
+
+-- somebody is to be closed, who waits for the word that all is kept
+abbrev pub after_closing : Phase → Phase
+after_closing phase.Settled = phase.Answering
+after_closing other = other
+
+-- the client at a place is to be closed
+abbrev pub with_closed : HubValue → ℕ → ClientValue → Why → HubValue
+with_closed h place c reason = record (with_client h place (Some (closed_for c reason))) { phase = after_closing h.phase }
+
+-- a client that is this desk is to be closed, unless it is already: another client is the desk
+abbrev pub unseated : ℕ → ClientValue → ClientValue
+unseated desk c = if is_desk desk c.desk && not (is_some c.closing) then closed_for c why.Elsewhere else c
+
+-- a client is at a place, and if it is a desk it is the only one
+abbrev pub alone : List (Option ClientValue) → ℕ → ClientValue → Option ℕ → List (Option ClientValue)
+alone clients place c None = slice_set clients place (Some c)
+alone clients place c (Some desk) = slice_set (map (option_map (unseated desk)) clients) place (Some c)
+
+-- the clients after a line of one that was this desk before it, if it was one
+abbrev pub seated_after : List (Option ClientValue) → ℕ → Option ℕ → ClientValue → List (Option ClientValue)
+seated_after clients place (Some desk) c = slice_set clients place (Some c)
+seated_after clients place None c = alone clients place c c.desk

@@ -8,8 +8,7 @@ use Rattle.nrm_control.specs.Standing.{ControlValue}
 use Rattle.nrm_stream.specs.declared.command.Command.{Command}
 use Rattle.nrm_stream.specs.declared.command.Command.TheVariants as command
 use Rattle.nrm_session.specs.Answering.{reply_in}
-use Rattle.nrm_session.specs.Replies.{Reply, bad, cancelled, hindsight_told, leg_told, memory, no_fare, no_leg, optimised, optimised_none}
-use Rattle.nrm_session.specs.Replies.{overflow, plan_told, sold, text_of, unknown}
+use Rattle.nrm_session.specs.Replies.{Reply, bad, leg_told, memory, no_fare, no_leg, plan_told, text_of}
 use Rattle.nrm_session.specs.declared.reply.Reply.{Reply as Answered}
 use Rattle.nrm_frames.specs.declared.rights.Rights.{Rights}
 use Rattle.nrm_frames.specs.declared.why.Why.{Why}
@@ -38,16 +37,7 @@ abbrev pub bound_words : Reply → List (List ℕ)
 bound_words (no_leg name) = codes "leg" ∷ name ∷ []
 bound_words no_fare = codes "fare" ∷ []
 bound_words bad = codes "most" ∷ []
-bound_words unknown = []
-bound_words (sold number) = []
-bound_words (cancelled number amount) = []
-bound_words (optimised value) = []
-bound_words optimised_none = []
-bound_words overflow = []
-bound_words memory = []
-bound_words (hindsight_told value revenue withheld) = []
-bound_words (leg_told text) = []
-bound_words (plan_told text) = []
+bound_words other = []
 
 -- the largest party of a product of which a request would be sold now, and what bounds it
 abbrev pub available_line : ControlValue → List ℕ → Option ℕ → List ℕ
@@ -61,17 +51,7 @@ available_line control name (Some product) =
 abbrev pub told_text : Reply → List ℕ
 told_text (leg_told text) = text ++ 10 ∷ []
 told_text (plan_told text) = text ++ 10 ∷ []
-told_text bad = text_of bad
-told_text unknown = text_of unknown
-told_text (sold number) = text_of (sold number)
-told_text (no_leg name) = text_of (no_leg name)
-told_text no_fare = text_of no_fare
-told_text (cancelled number amount) = text_of (cancelled number amount)
-told_text (optimised value) = text_of (optimised value)
-told_text optimised_none = text_of optimised_none
-told_text overflow = text_of overflow
-told_text memory = text_of memory
-told_text (hindsight_told value revenue withheld) = text_of (hindsight_told value revenue withheld)
+told_text reply = text_of reply
 
 -- the row that a desk has under a number, among those that are held
 abbrev pub row_under : List Row → ℕ → Option Row
@@ -111,9 +91,9 @@ pub data Answers (r : RegisterValue) (rights : Rights) (d n : ℕ) (line : List 
       → is_change c ≡ true → (desk_at r d).next ≤ n → r.rows < MOST_ROWS → Carries r r' d n c reply
       → Answers r rights d n line r' (carried c (reply_in r'.control reply)) (text_of (reply_in r'.control reply))
   runs_out : (c : Command) (r' : RegisterValue) → asked_in line ≡ asked.Says c → allows rights r.owners d c ≡ true → is_change c ≡ true
-      → Passes r r' c memory → Answers r rights d n line r' (passed c memory) memory_line
+      → (desk_at r d).next ≤ n → r.rows < MOST_ROWS → Passes r r' c memory → Answers r rights d n line r' (passed c memory) memory_line
   lacks : (c : Command) → asked_in line ≡ asked.Says c → allows rights r.owners d c ≡ true → is_change c ≡ true
-      → Answers r rights d n line r otherwise memory_line
+      → (desk_at r d).next ≤ n → r.rows < MOST_ROWS → Answers r rights d n line r otherwise memory_line
   looks : (c : Command) (r' : RegisterValue) (reply : Reply) → asked_in line ≡ asked.Says c → allows rights r.owners d c ≡ true
       → is_change c ≡ false → Passes r r' c reply → Answers r rights d n line r' (passed c reply) (told_text reply)
   -- its row is there
@@ -121,12 +101,14 @@ pub data Answers (r : RegisterValue) (rights : Rights) (d n : ℕ) (line : List 
       → n < (desk_at r d).next → row_under (desk_at r d).held n ≡ Some row → is_same row.command c ≡ true
       → Answers r rights d n line r (repeated row) (text_of (reply_in r.control row.reply))
 
--- A line that isn't answered: the client is to be closed, since the number was used for another line, is too old or too great, or since there are
--- as many rows as there may be.
-pub data Refuses (r : RegisterValue) (d n : ℕ) (line : List ℕ) : Why → Type 0 where
-  is_other : (c : Command) (row : Row) → asked_in line ≡ asked.Says c → is_change c ≡ true → n < (desk_at r d).next
-      → row_under (desk_at r d).held n ≡ Some row → is_same row.command c ≡ false → Refuses r d n line why.Sequence
-  is_used : (c : Command) → asked_in line ≡ asked.Says c → is_change c ≡ true → n < (desk_at r d).next
-      → row_under (desk_at r d).held n ≡ None → Refuses r d n line (reason_used (desk_at r d).held n)
-  is_beyond : LAST_SEQUENCE < n → Refuses r d n line why.Sequence
-  is_full : (c : Command) → asked_in line ≡ asked.Says c → is_change c ≡ true → MOST_ROWS ≤ r.rows → Refuses r d n line why.Rows
+-- A line that isn't answered: the client is to be closed, since the number is too great, or, of a command that it may have carried out, since
+-- the number was used for another line or is too old, or since there are as many rows as there may be.
+pub data Refuses (r : RegisterValue) (rights : Rights) (d n : ℕ) (line : List ℕ) : Why → Type 0 where
+  is_beyond : LAST_SEQUENCE < n → Refuses r rights d n line why.Sequence
+  is_other : (c : Command) (row : Row) → asked_in line ≡ asked.Says c → allows rights r.owners d c ≡ true → is_change c ≡ true
+      → n < (desk_at r d).next → row_under (desk_at r d).held n ≡ Some row → is_same row.command c ≡ false
+      → Refuses r rights d n line why.Sequence
+  is_used : (c : Command) → asked_in line ≡ asked.Says c → allows rights r.owners d c ≡ true → is_change c ≡ true → n < (desk_at r d).next
+      → row_under (desk_at r d).held n ≡ None → Refuses r rights d n line (reason_used (desk_at r d).held n)
+  is_full : (c : Command) → asked_in line ≡ asked.Says c → allows rights r.owners d c ≡ true → is_change c ≡ true → (desk_at r d).next ≤ n
+      → MOST_ROWS ≤ r.rows → Refuses r rights d n line why.Rows

@@ -55,18 +55,7 @@ with_row desk row = record { name = desk.name; next = row.sequence + 1; held = t
 -- a booking that was sold is this desk's
 abbrev pub owners_after : List ℕ → ℕ → Answered → List ℕ
 owners_after owners desk (answered.Sold number) = owners ++ desk ∷ []
-owners_after owners desk answered.Bad = owners
-owners_after owners desk answered.Unknown = owners
-owners_after owners desk (answered.NoLeg leg) = owners
-owners_after owners desk answered.NoFare = owners
-owners_after owners desk (answered.Cancelled number refund) = owners
-owners_after owners desk (answered.Optimised num den) = owners
-owners_after owners desk answered.OptimisedNone = owners
-owners_after owners desk answered.Overflow = owners
-owners_after owners desk answered.Memory = owners
-owners_after owners desk (answered.Hindsight num den revenue withheld) = owners
-owners_after owners desk (answered.Leg leg) = owners
-owners_after owners desk answered.Plan = owners
+owners_after owners desk other = owners
 
 -- a line of a desk was carried out under the desk's own number: the controller makes the step, and the row joins the text
 pub record Carries (old new : RegisterValue) (desk sequence : ℕ) (c : Command) (a : Answered) : Type 0 where
@@ -95,19 +84,12 @@ pub data Joins (spare : Option ℕ) (old : RegisterValue) (name : List ℕ) : Re
 
 -- a reply that a row may have: of one line, and the same however things stand later
 abbrev pub is_of_row : Answered → Bool
-is_of_row answered.Unknown = true
-is_of_row (answered.Sold number) = true
-is_of_row (answered.NoLeg leg) = true
-is_of_row answered.NoFare = true
-is_of_row (answered.Cancelled number refund) = true
-is_of_row (answered.Optimised num den) = true
-is_of_row answered.OptimisedNone = true
-is_of_row answered.Overflow = true
 is_of_row answered.Bad = false
 is_of_row answered.Memory = false
 is_of_row (answered.Hindsight num den revenue withheld) = false
 is_of_row (answered.Leg leg) = false
 is_of_row answered.Plan = false
+is_of_row other = true
 
 -- a row that can be told again
 pub record IsTold (control : ControlValue) (row : Row) : Type 0 where

@@ -30,6 +30,6 @@ HadTurn c = (0 < c.used) ⊎ ((c.closing ≢ None) ⊎ HasNoLine c)
 abbrev pub OfEach : (ClientValue → Type 0) → HubValue → Type 0
 OfEach P h = (place : ℕ) (c : ClientValue) → place ≤ LAST_PLACE → client_at h place ≡ Some c → P c
 
--- Nothing is due: the word that all is kept is awaited, or nobody waits for anything.
+-- Nothing is due: the word that all is kept is awaited, or it was said and nobody waits for anything.
 abbrev pub NothingIsDue : HubValue → Type 0
-NothingIsDue h = (h.phase ≡ phase.Asked) ⊎ OfEach IsAtRest h
+NothingIsDue h = (h.phase ≡ phase.Asked) ⊎ ((h.phase ≡ phase.Settled) × OfEach IsAtRest h)

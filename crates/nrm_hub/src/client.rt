@@ -10,6 +10,7 @@ ghost use Rattle.nrm_hub.specs.Seats.{IsBelow};
 ghost use Rattle.nrm_hub.specs.Inner.Taking.{answered_as, settled};
 ghost use Rattle.nrm_hub.specs.Taking.{may_greet};
 ghost use Rattle.nrm_hub.specs.Waiting.{HasNoLine, IsAtRest};
+ghost use Rattle.nrm_hub.specs.World.{IsNoGreeting};
 ghost use Rattle.nrm_hub.specs.declared.asked.Asked.TheVariants as asked;
 ghost use Rattle.nrm_hub.specs.declared.limits.TheConstants.{LAST_SEQUENCE, MOST_LINE, MOST_WAITING};
 
@@ -385,6 +386,7 @@ impl Client {
         end: usize,
     )
         requires first { self.old.desk ≡ None }
+        requires own { IsNoGreeting asked.now }
         requires spare { IfSome spare (λ desk. desk < length register.old.desks) }
         requires asked { asked_in (take end self.old.coming) ≡ asked.now }
         requires limits { IsAsked asked.now }

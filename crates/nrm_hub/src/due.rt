@@ -67,13 +67,6 @@ impl Due {
         }
     }
 
-    /// Whether nothing is due.
-    pub(crate) fn is_nothing(&self) -> bool
-        ensures { result ≡ true → self.now ≡ nothing_due }
-    {
-        self.places.is_empty() && !self.is_all
-    }
-
     /// How many places are to be looked at.
     pub(crate) fn count(&self) -> usize
         ensures { result ≡ due_count self.now }

@@ -1,14 +1,15 @@
 //! The hub: what all desks have in common, the clients by their places, whose turn comes, and who is to be told. Lines are taken in turns;
 //! then the rows of all that was answered are given out, and once they are kept the replies are sent.
-ghost use Rattle.std.specs.Prelude.{ℕ, ◌≡◌, ◌≢◌, ◌<◌, ◌≤◌, ◌∷◌, [], get_or, length, Some, None, IfErr, IfSome, MatchBool, MatchOption, OnErr, OnOk, false, ◌⊎◌};
+ghost use Rattle.std.specs.Prelude.{ℕ, ◌≡◌, ◌≢◌, ◌<◌, ◌≤◌, ◌∷◌, [], get_or, length, option_map, slice_set, Some, None, IfErr, IfSome, MatchBool, MatchOption, OnErr, OnOk, false, true, ◌⊎◌};
 ghost use Rattle.nrm_edge.specs.Causes.{HasCause};
 ghost use Rattle.nrm_frames.specs.declared.header.Header.TheVariants as header;
 ghost use Rattle.nrm_hub.specs.Again.{FailsAgain};
 ghost use Rattle.nrm_frames.specs.declared.limits.TheConstants.{LAST_PLACE};
 ghost use Rattle.nrm_hub.specs.Due.{AreDue, DueValue, IsDue, StillDue, StillDueBeside, due_count};
 ghost use Rattle.nrm_hub.specs.Goes.{Goes, Puts, PutsCut};
-ghost use Rattle.nrm_hub.specs.Hub.{client_at, new_hub};
-ghost use Rattle.nrm_hub.specs.Inner.Seats.{AreListed, AreSo, ClosesAt, HasPlaces, IsDeskAt, IsQuietAt, IsDeskOf, IsSomebodys, MakesSo, Only, TakesBy, WasClosed, WasSent};
+ghost use Rattle.nrm_hub.specs.Hub.{after_closing, alone, client_at, new_hub, takes_frames, takes_lines, unseated};
+ghost use Rattle.nrm_hub.specs.Inner.Seats.{AreListed, AreSo, AreUnseated, CameAt, ClosesAt, HasPlaces, IsQuietAt, IsDeskOf, IsSomebodys, IsToldAt, MakesSo, UnseatsBeside};
+ghost use Rattle.nrm_hub.specs.Inner.Seats.{TakesBy, WasClosed, WasSent};
 ghost use Rattle.nrm_hub.specs.Clients.{ClientValue};
 ghost use Rattle.nrm_hub.specs.Seats.{AreSeated, IsOpened};
 ghost use Rattle.nrm_hub.specs.Spare.{IsForgettable, IsSpare};
@@ -19,12 +20,12 @@ ghost use Rattle.nrm_hub.specs.declared.phase.Phase.TheVariants as phase;
 use crate::again::{AgainFault, give_again};
 use crate::client::{Client, Took};
 use crate::due::Due;
-use crate::limits::{MOST_DESKS, MOST_LINES};
+use crate::limits::{MOST_DESKS, MOST_LINES, MOST_OPENED};
 use crate::phase::Phase;
 use crate::register::Register;
 use nrm_control::Controller;
 use nrm_edge::{Failed, Sink};
-use nrm_frames::{Rights, Why, put_close, put_keep, put_send};
+use nrm_frames::{LAST_PLACE, Rights, Why, put_close, put_keep, put_ready, put_send};
 use nrm_text::Name;
 use std::alloc::{AllocError, Global};
 use std::marker::Model;
@@ -55,10 +56,8 @@ pub struct Hub {
 }
 
 impl Model for Hub {
-    ghost use Rattle.std.specs.Prelude.{length};
-    ghost use Rattle.nrm_hub.specs.Due.{AreDue};
     ghost use Rattle.nrm_hub.specs.Hub.{HubValue};
-    ghost use Rattle.nrm_hub.specs.Seats.{AreSeated};
+    ghost use Rattle.nrm_hub.specs.Seats.{IsHub};
 
     ghost Value = { HubValue };
 
@@ -69,7 +68,7 @@ impl Model for Hub {
       phase = h.phase;
     } };
 
-    ghost invariant = { λ h. AreSeated h.clients.items (length h.register.desks) × AreDue h.clients.items h.due h.heard };
+    ghost invariant = { λ h. IsHub h.register h.clients.items h.due h.heard h.phase };
 }
 
 impl Hub {
@@ -82,7 +81,7 @@ impl Hub {
             register: Register::new(alloc, controller),
             clients: Vec::new(alloc),
             opened: 0,
-            phase: Phase::Settled,
+            phase: Phase::Replaying,
             due: Due::new(alloc),
             heard: Due::new(alloc),
             room: Due::new(alloc),
@@ -96,28 +95,53 @@ impl Hub {
         self.register.rows()
     }
 
-    /// Whether what was answered is kept.
+    /// What is awaited.
     pub fn phase(&self) -> Phase
         ensures { result ≡ self.now.phase }
     {
         self.phase
     }
 
-    /// Gives rows of the journal again, before there is any client.
+    /// Whether frames of clients may come.
+    pub fn takes_frames(&self) -> bool
+        ensures { result ≡ takes_frames self.now.phase }
+    {
+        matches!(self.phase, Phase::Settled | Phase::Answering | Phase::Asked)
+    }
+
+    /// Gives rows of the journal again, some at least. Behind an error the hub takes nothing more.
     ///
     /// # Errors
     /// A row is none, or its reply isn't the one that is given now; memory runs out.
     pub fn again(&mut self, alloc: Global, payload: &[u8]) -> Result<(), AgainFault>
-        requires nobody { self.old.clients ≡ [] }
-        requires settled { self.old.phase ≡ phase.Settled }
-        requires given { self.old.register.text ≡ [] }
+        requires replaying { self.old.phase ≡ phase.Replaying }
+        requires some { payload.now ≢ [] }
         ensures goes { OnOk result (Goes self.old self.new (frame (header.Again (length payload.now)) payload.now ∷ []) []) }
-        ensures given { OnOk result (self.new.register.text ≡ []) }
         ensures fails { IfErr result (FailsAgain self.old.register payload.now) }
-        ensures nobody { self.new.clients ≡ [] }
-        ensures settled { self.new.phase ≡ phase.Settled }
+        ensures phase { OnOk result (self.new.phase ≡ phase.Replaying) }
     {
-        give_again(alloc, &mut self.register, payload)
+        match give_again(alloc, &mut self.register, payload) {
+            Ok(()) => Ok(()),
+            Err(fault) => {
+                self.phase = Phase::Ended;
+                Err(fault)
+            }
+        }
+    }
+
+    /// The rows that were given again were all: it is said how many they are, and clients may come.
+    ///
+    /// # Errors
+    /// A put failed; a front of the frame went out.
+    pub fn ready<K: Sink>(&mut self, sink: &mut K) -> Result<(), Failed>
+        requires { self.old.phase ≡ phase.Replaying }
+        ensures puts { OnOk result (Puts self.old self.new (frame (header.Again 0) [] ∷ []) (K.held sink.old) (K.held sink.new)) }
+        ensures cut { OnErr result (PutsCut self.old self.new (frame (header.Again 0) [] ∷ []) (K.held sink.old) (K.held sink.new)) }
+        ensures cause { HasCause (K.faults sink.old) (K.faults sink.new) result }
+        ensures phase { self.new.phase ≡ phase.Settled }
+    {
+        self.phase = Phase::Settled;
+        put_ready(sink, self.register.rows())
     }
 
     // Who is at a place.
@@ -132,8 +156,10 @@ impl Hub {
 
     // Makes places up to this one.
     fn make_place(&mut self, place: u16) -> Result<(), AllocError>
+        requires { takes_frames self.old.phase ≡ true }
         ensures goes { Goes self.old self.new [] [] }
         ensures there { OnOk result (place < length self.new.clients) }
+        ensures lacks { OnErr result (length self.new.clients ≤ place) }
         ensures same { client_at self.new place ≡ client_at self.old place }
         ensures opened { self.new.opened ≡ self.old.opened }
         ensures phase { self.new.phase ≡ self.old.phase }
@@ -143,13 +169,14 @@ impl Hub {
 
     /// Opens a client at a place, with the name of its desk and its rights.
     pub fn open(&mut self, alloc: Global, place: u16, name: Name, rights: Rights) -> Opened
+        requires { takes_frames self.old.phase ≡ true }
         ensures opened { IsOpened self.old self.new place name rights result }
         ensures phase { self.new.phase ≡ self.old.phase }
     {
         if let Some(_) = self.client(place) {
             return Opened::IsTaken;
         }
-        if self.opened == u64::MAX {
+        if self.opened == MOST_OPENED {
             return Opened::NoMemory;
         }
         if self.make_place(place).is_err() {
@@ -163,98 +190,57 @@ impl Hub {
     /// A piece came from the client at a place. Where nobody is, or one who is to be closed, it is nothing. If more would wait than may,
     /// or memory runs out, the client is to be closed.
     pub fn came(&mut self, place: u16, piece: &[u8])
+        requires { takes_frames self.old.phase ≡ true }
         ensures goes { Goes self.old self.new (frame (header.Came place (length piece.now)) piece.now ∷ []) [] }
-        ensures phase { self.new.phase ≡ self.old.phase }
+        ensures phase { takes_frames self.new.phase ≡ true }
     {
-        let at = place as usize;
-        if at >= self.clients.len() {
-            return;
-        }
-        if let Some(client) = &mut self.clients[at] {
-            if client.closing().is_none() {
-                client.came(piece);
-                list_came(&mut self.due, &mut self.heard, client, place);
-            }
+        let closes = came_at(
+            &mut self.clients,
+            &mut self.due,
+            &mut self.heard,
+            place,
+            piece,
+        );
+        if closes {
+            self.phase = after_closing(self.phase);
         }
     }
 
     /// The client at a place is gone: it is to be closed.
     pub fn gone(&mut self, place: u16)
+        requires { takes_frames self.old.phase ≡ true }
         ensures goes { Goes self.old self.new (frame (header.Gone place) [] ∷ []) [] }
-        ensures phase { self.new.phase ≡ self.old.phase }
+        ensures phase { takes_frames self.new.phase ≡ true }
     {
-        close_at(
+        let closes = close_at(
             &mut self.clients,
             &mut self.due,
             &mut self.heard,
             place,
             Why::Gone,
         );
+        if closes {
+            self.phase = after_closing(self.phase);
+        }
     }
 
-    /// All rows that were given out are kept.
-    pub fn kept(&mut self)
-        requires { self.old.phase ≡ phase.Asked }
-        ensures goes { Goes self.old self.new (frame header.Kept [] ∷ []) [] }
-        ensures phase { self.new.phase ≡ phase.Settled }
-    {
-        self.phase = Phase::Settled;
-    }
-
-    /// A frame came that changes nothing: the last.
+    /// The last frame came.
     pub fn ended(&mut self)
+        requires { self.old.phase ≢ phase.Telling }
         ensures goes { Goes self.old self.new (frame header.End [] ∷ []) [] }
-        ensures same { self.new ≡ self.old }
-    {}
-
-    // The client at a place is to be closed if it is a desk, since the client at that other place is the same.
-    fn unseat(&mut self, earlier: u16, place: u16, desk: u32)
-        requires { IsDeskAt self.old place desk }
-        ensures goes { Goes self.old self.new [] [] }
-        ensures phase { self.new.phase ≡ self.old.phase }
-        ensures turn { Only HadTurn self.old.clients self.new.clients }
+        ensures phase { self.new.phase ≡ phase.Ended }
     {
-        let Some(client) = self.client(earlier) else {
-            return;
-        };
-        match client.desk() {
-            Some(other) if other == desk && earlier != place => {
-                close_at(
-                    &mut self.clients,
-                    &mut self.due,
-                    &mut self.heard,
-                    earlier,
-                    Why::Elsewhere,
-                );
-            }
-            _ => {}
-        }
+        self.phase = Phase::Ended;
     }
 
-    // The client at a place is perhaps a desk: who was that desk before is to be closed.
-    fn seat(&mut self, place: u16)
-        ensures goes { Goes self.old self.new [] [] }
-        ensures phase { self.new.phase ≡ self.old.phase }
-        ensures turn { Only HadTurn self.old.clients self.new.clients }
-    {
-        let Some(client) = self.client(place) else {
-            return;
-        };
-        let Some(desk) = client.desk() else {
-            return;
-        };
-        if let Some(earlier) = self.register.replace_client(desk, place) {
-            self.unseat(earlier, place, desk);
-        }
-    }
-
-    // Takes the next line of the client at a place.
+    // Takes the next line of the client at a place. If it becomes a desk by that, every other client that is the desk is to be closed.
     fn take_line(&mut self, alloc: Global, place: u16) -> Took
-        requires { self.old.phase ≢ phase.Asked }
+        requires { takes_lines self.old.phase ≡ true }
         ensures goes { Goes self.old self.new [] [] }
-        ensures phase { self.new.phase ≢ phase.Asked }
+        ensures phase { takes_lines self.new.phase ≡ true }
         ensures turn { MakesSo HadTurn self.old.clients self.new.clients place }
     {
+        let was = desk_of(&self.clients, place);
         let took = take_at(
             alloc,
             &mut self.register,
@@ -262,18 +248,26 @@ impl Hub {
             &mut self.heard,
             place,
         );
-        if let Took::Line | Took::LongLine = took {
-            self.phase = Phase::Answering;
-            self.seat(place);
+        if let Took::Nothing = took {
+            return took;
+        }
+        self.phase = Phase::Answering;
+        if was.is_none() {
+            seat(
+                &mut self.register,
+                &mut self.clients,
+                &mut self.heard,
+                place,
+            );
         }
         took
     }
 
     // Takes lines of the client at a place: no more than may be taken at a time, and none behind one that may take long.
     fn take_lines(&mut self, alloc: Global, place: u16)
-        requires { self.old.phase ≢ phase.Asked }
+        requires { takes_lines self.old.phase ≡ true }
         ensures goes { Goes self.old self.new [] [] }
-        ensures phase { self.new.phase ≢ phase.Asked }
+        ensures phase { takes_lines self.new.phase ≡ true }
         ensures turn { MakesSo HadTurn self.old.clients self.new.clients place }
     {
         let mut took = self.take_line(alloc, place);
@@ -294,9 +288,9 @@ impl Hub {
 
     // Gives the client at a place its turn.
     fn take_turn(&mut self, alloc: Global, place: u16)
-        requires { self.old.phase ≢ phase.Asked }
+        requires { takes_lines self.old.phase ≡ true }
         ensures goes { Goes self.old self.new [] [] }
-        ensures phase { self.new.phase ≢ phase.Asked }
+        ensures phase { takes_lines self.new.phase ≡ true }
         ensures turn { MakesSo HadTurn self.old.clients self.new.clients place }
     {
         self.take_lines(alloc, place);
@@ -339,9 +333,9 @@ impl Hub {
 
     // Gives each client of a list its turn, in their order.
     fn take_turns(&mut self, alloc: Global, listed: &Due)
-        requires { self.old.phase ≢ phase.Asked }
+        requires { takes_lines self.old.phase ≡ true }
         ensures goes { Goes self.old self.new [] [] }
-        ensures phase { self.new.phase ≢ phase.Asked }
+        ensures phase { takes_lines self.new.phase ≡ true }
         ensures turns { AreSo HadTurn self.old.clients self.new.clients listed.now (due_count listed.now) }
     {
         for at in 0..listed.count() {
@@ -351,12 +345,12 @@ impl Hub {
 
     // Gives out the rows of all that was answered.
     fn ask_to_keep<K: Sink>(&mut self, sink: &mut K) -> Result<(), Failed>
-        requires { self.old.phase ≢ phase.Asked }
-        ensures puts { OnOk result (Puts self.old self.new (K.held sink.old) (K.held sink.new)) }
-        ensures cut { OnErr result (PutsCut self.old self.new (K.held sink.old) (K.held sink.new)) }
+        requires answering { self.old.phase ≡ phase.Answering }
+        requires turns { OfEach HadTurn self.old }
+        ensures puts { OnOk result (Puts self.old self.new [] (K.held sink.old) (K.held sink.new)) }
+        ensures cut { OnErr result (PutsCut self.old self.new [] (K.held sink.old) (K.held sink.new)) }
         ensures cause { HasCause (K.faults sink.old) (K.faults sink.new) result }
         ensures phase { self.new.phase ≡ phase.Asked }
-        ensures clients { self.new.clients ≡ self.old.clients }
     {
         self.phase = Phase::Asked;
         let put = put_keep(sink, self.register.text());
@@ -364,38 +358,37 @@ impl Hub {
         put
     }
 
-    /// Unless the word that all is kept is awaited, or nobody waits for anything: gives each client that does its turn, in their order, and
-    /// then gives out the rows of all that was answered.
+    /// Gives each client that waits for something its turn, in their order, and then gives out the rows of all that was answered; unless the
+    /// word that all is kept is awaited, or nobody waits for anything.
     ///
     /// # Errors
     /// A put failed; a front of the frame went out.
     pub fn take_round<K: Sink>(&mut self, alloc: Global, sink: &mut K) -> Result<(), Failed>
-        ensures puts { OnOk result (Puts self.old self.new (K.held sink.old) (K.held sink.new)) }
-        ensures cut { OnErr result (PutsCut self.old self.new (K.held sink.old) (K.held sink.new)) }
+        requires { takes_frames self.old.phase ≡ true }
+        ensures puts { OnOk result (Puts self.old self.new [] (K.held sink.old) (K.held sink.new)) }
+        ensures cut { OnErr result (PutsCut self.old self.new [] (K.held sink.old) (K.held sink.new)) }
         ensures cause { HasCause (K.faults sink.old) (K.faults sink.new) result }
         ensures due { OnOk result (NothingIsDue self.new) }
-        ensures turns { OnOk result ((self.old.phase ≡ phase.Asked) ⊎ OfEach HadTurn self.new) }
     {
         if self.phase == Phase::Asked {
             return Ok(());
         }
         let listed = self.begin_round(alloc);
-        if listed.is_nothing() {
-            self.put_back(listed);
-            return Ok(());
-        }
         self.take_turns(alloc, &listed);
         self.put_back(listed);
+        if let Phase::Settled = self.phase {
+            return Ok(());
+        }
         self.ask_to_keep(sink)
     }
 
     // Sends what waits for the client at a place.
     fn send<K: Sink>(&mut self, sink: &mut K, place: u16) -> Result<(), Failed>
-        requires { self.old.phase ≡ phase.Settled }
-        ensures puts { OnOk result (Puts self.old self.new (K.held sink.old) (K.held sink.new)) }
-        ensures cut { OnErr result (PutsCut self.old self.new (K.held sink.old) (K.held sink.new)) }
+        requires { self.old.phase ≡ phase.Telling }
+        ensures puts { OnOk result (Puts self.old self.new [] (K.held sink.old) (K.held sink.new)) }
+        ensures cut { OnErr result (PutsCut self.old self.new [] (K.held sink.old) (K.held sink.new)) }
         ensures cause { HasCause (K.faults sink.old) (K.faults sink.new) result }
-        ensures phase { self.new.phase ≡ phase.Settled }
+        ensures phase { self.new.phase ≡ phase.Telling }
         ensures sent { WasSent self.old.clients self.new.clients place }
     {
         let at = place as usize;
@@ -415,11 +408,12 @@ impl Hub {
 
     // Closes the client at a place if it is to be closed.
     fn close<K: Sink>(&mut self, sink: &mut K, place: u16) -> Result<(), Failed>
-        requires { self.old.phase ≡ phase.Settled }
-        ensures puts { OnOk result (Puts self.old self.new (K.held sink.old) (K.held sink.new)) }
-        ensures cut { OnErr result (PutsCut self.old self.new (K.held sink.old) (K.held sink.new)) }
+        requires telling { self.old.phase ≡ phase.Telling }
+        requires told { IsToldAt self.old.clients place }
+        ensures puts { OnOk result (Puts self.old self.new [] (K.held sink.old) (K.held sink.new)) }
+        ensures cut { OnErr result (PutsCut self.old self.new [] (K.held sink.old) (K.held sink.new)) }
         ensures cause { HasCause (K.faults sink.old) (K.faults sink.new) result }
-        ensures phase { self.new.phase ≡ phase.Settled }
+        ensures phase { self.new.phase ≡ phase.Telling }
         ensures closed { WasClosed self.old.clients self.new.clients place }
     {
         let Some(client) = self.client(place) else {
@@ -434,11 +428,11 @@ impl Hub {
 
     // Sends what waits for the client at a place, and closes it if it is to be closed.
     fn tell<K: Sink>(&mut self, sink: &mut K, place: u16) -> Result<(), Failed>
-        requires { self.old.phase ≡ phase.Settled }
-        ensures puts { OnOk result (Puts self.old self.new (K.held sink.old) (K.held sink.new)) }
-        ensures cut { OnErr result (PutsCut self.old self.new (K.held sink.old) (K.held sink.new)) }
+        requires { self.old.phase ≡ phase.Telling }
+        ensures puts { OnOk result (Puts self.old self.new [] (K.held sink.old) (K.held sink.new)) }
+        ensures cut { OnErr result (PutsCut self.old self.new [] (K.held sink.old) (K.held sink.new)) }
         ensures cause { HasCause (K.faults sink.old) (K.faults sink.new) result }
-        ensures phase { self.new.phase ≡ phase.Settled }
+        ensures phase { self.new.phase ≡ phase.Telling }
         ensures told { OnOk result (MakesSo IsTold self.old.clients self.new.clients place) }
     {
         self.send(sink, place)?;
@@ -447,11 +441,11 @@ impl Hub {
 
     // Sends what waits for each client of a list, and closes those of them that are to be closed.
     fn tell_listed<K: Sink>(&mut self, sink: &mut K, listed: &Due) -> Result<(), Failed>
-        requires { self.old.phase ≡ phase.Settled }
-        ensures puts { OnOk result (Puts self.old self.new (K.held sink.old) (K.held sink.new)) }
-        ensures cut { OnErr result (PutsCut self.old self.new (K.held sink.old) (K.held sink.new)) }
+        requires { self.old.phase ≡ phase.Telling }
+        ensures puts { OnOk result (Puts self.old self.new [] (K.held sink.old) (K.held sink.new)) }
+        ensures cut { OnErr result (PutsCut self.old self.new [] (K.held sink.old) (K.held sink.new)) }
         ensures cause { HasCause (K.faults sink.old) (K.faults sink.new) result }
-        ensures phase { self.new.phase ≡ phase.Settled }
+        ensures phase { self.new.phase ≡ phase.Telling }
         ensures told { OnOk result (AreSo IsTold self.old.clients self.new.clients listed.now (due_count listed.now)) }
     {
         for at in 0..listed.count() {
@@ -460,22 +454,36 @@ impl Hub {
         Ok(())
     }
 
-    /// Sends what waits for each client, and closes those that are to be closed.
-    ///
-    /// # Errors
-    /// A put failed; a front of what was to be sent went out.
-    pub fn tell_all<K: Sink>(&mut self, alloc: Global, sink: &mut K) -> Result<(), Failed>
-        requires { self.old.phase ≡ phase.Settled }
-        ensures puts { OnOk result (Puts self.old self.new (K.held sink.old) (K.held sink.new)) }
-        ensures cut { OnErr result (PutsCut self.old self.new (K.held sink.old) (K.held sink.new)) }
+    // Sends what waits for each client, and closes those that are to be closed.
+    fn tell_all<K: Sink>(&mut self, alloc: Global, sink: &mut K) -> Result<(), Failed>
+        requires { self.old.phase ≡ phase.Telling }
+        ensures puts { OnOk result (Puts self.old self.new [] (K.held sink.old) (K.held sink.new)) }
+        ensures cut { OnErr result (PutsCut self.old self.new [] (K.held sink.old) (K.held sink.new)) }
         ensures cause { HasCause (K.faults sink.old) (K.faults sink.new) result }
-        ensures phase { self.new.phase ≡ phase.Settled }
+        ensures phase { self.new.phase ≡ phase.Telling }
         ensures told { OnOk result (OfEach IsTold self.new) }
     {
         let listed = self.heard_now(alloc);
         self.tell_listed(sink, &listed)?;
         self.put_back(listed);
         self.end_round();
+        Ok(())
+    }
+
+    /// All rows that were given out are kept: what waits for each client is sent, and those that are to be closed are closed.
+    ///
+    /// # Errors
+    /// A put failed; a front of what was to be sent went out.
+    pub fn kept<K: Sink>(&mut self, alloc: Global, sink: &mut K) -> Result<(), Failed>
+        requires { self.old.phase ≡ phase.Asked }
+        ensures puts { OnOk result (Puts self.old self.new (frame header.Kept [] ∷ []) (K.held sink.old) (K.held sink.new)) }
+        ensures cut { OnErr result (PutsCut self.old self.new (frame header.Kept [] ∷ []) (K.held sink.old) (K.held sink.new)) }
+        ensures cause { HasCause (K.faults sink.old) (K.faults sink.new) result }
+        ensures phase { OnOk result (self.new.phase ≡ phase.Settled) }
+    {
+        self.phase = Phase::Telling;
+        self.tell_all(alloc, sink)?;
+        self.phase = Phase::Settled;
         Ok(())
     }
 }
@@ -580,6 +588,7 @@ fn move_due(clients: &mut Vec<Option<Client>>, from: &Due, to: &mut Due)
 fn make_places(clients: &mut Vec<Option<Client>>, place: u16) -> Result<(), AllocError>
     ensures made { HasPlaces clients.old.items clients.new.items }
     ensures there { OnOk result (place < length clients.new.items) }
+    ensures lacks { OnErr result (length clients.new.items ≤ place) }
 {
     while clients.len() <= place as usize {
         clients.push(None)?;
@@ -587,20 +596,131 @@ fn make_places(clients: &mut Vec<Option<Client>>, place: u16) -> Result<(), Allo
     Ok(())
 }
 
-// The client at a place is to be closed, if somebody is there who isn't yet.
-fn close_at(clients: &mut Vec<Option<Client>>, due: &mut Due, heard: &mut Due, place: u16, why: Why)
-    ensures closes { ClosesAt clients.old.items place why clients.new.items }
+// The client at a place is to be closed, if somebody is there who isn't yet. Gives whether somebody was.
+fn close_at(
+    clients: &mut Vec<Option<Client>>,
+    due: &mut Due,
+    heard: &mut Due,
+    place: u16,
+    why: Why,
+) -> bool
+    ensures closes { ClosesAt clients.old.items place why clients.new.items result }
     ensures due { AreDue clients.old.items due.old heard.old → AreDue clients.new.items due.new heard.new }
 {
     let at = place as usize;
     if at >= clients.len() {
-        return;
+        return false;
     }
     if let Some(client) = &mut clients[at] {
         if client.closing().is_none() {
             client.close(why);
             list_closing(due, heard, client, place);
+            return true;
         }
+    }
+    false
+}
+
+// A piece came from the client at a place, if somebody is there who isn't to be closed. Gives whether it is to be closed by that.
+fn came_at(
+    clients: &mut Vec<Option<Client>>,
+    due: &mut Due,
+    heard: &mut Due,
+    place: u16,
+    piece: &[u8],
+) -> bool
+    ensures came { CameAt clients.old.items place piece.now clients.new.items result }
+    ensures due { AreDue clients.old.items due.old heard.old → AreDue clients.new.items due.new heard.new }
+{
+    let at = place as usize;
+    if at >= clients.len() {
+        return false;
+    }
+    if let Some(client) = &mut clients[at] {
+        if client.closing().is_none() {
+            client.came(piece);
+            list_came(due, heard, client, place);
+            return client.closing().is_some();
+        }
+    }
+    false
+}
+
+// What is awaited once somebody is to be closed.
+fn after_closing(phase: Phase) -> Phase
+    ensures { result ≡ after_closing phase }
+{
+    match phase {
+        Phase::Settled => Phase::Answering,
+        _ => phase,
+    }
+}
+
+// The desk of the client at a place, if somebody is there who is one.
+fn desk_of(clients: &[Option<Client>], place: u16) -> Option<u32>
+    ensures desk { (client : ClientValue) → get_or clients.now place None ≡ Some client → result ≡ client.desk }
+    ensures there { IfSome result (IsDeskOf clients.now place) }
+{
+    match clients.get(place as usize) {
+        Some(Some(client)) => client.desk(),
+        _ => None,
+    }
+}
+
+// The client at a place is to be closed if it is this desk, unless it is already.
+fn unseat(clients: &mut Vec<Option<Client>>, heard: &mut Due, place: usize, desk: u32)
+    requires { place < length clients.old.items }
+    ensures unseats { clients.new.items ≡ slice_set clients.old.items place (option_map (unseated desk) (get_or clients.old.items place None)) }
+    ensures due { (due : DueValue) → AreDue clients.old.items due heard.old → AreDue clients.new.items due heard.new }
+{
+    if let Some(client) = &mut clients[place] {
+        if client.closing().is_none() {
+            if client.desk() == Some(desk) {
+                client.close(Why::Elsewhere);
+                list(heard, client, place.min(LAST_PLACE as usize) as u16);
+            }
+        }
+    }
+}
+
+// The client at another place is to be closed if it is this desk, unless it is already.
+fn unseat_beside(
+    clients: &mut Vec<Option<Client>>,
+    heard: &mut Due,
+    place: u16,
+    other: usize,
+    desk: u32,
+)
+    requires { other < length clients.old.items }
+    ensures beside { UnseatsBeside clients.old.items clients.new.items place desk other }
+    ensures due { (due : DueValue) → AreDue clients.old.items due heard.old → AreDue clients.new.items due heard.new }
+{
+    if other != place as usize {
+        unseat(clients, heard, other, desk);
+    }
+}
+
+// Every client that is this desk is to be closed, but for the one at a place.
+fn unseat_others(clients: &mut Vec<Option<Client>>, heard: &mut Due, place: u16, desk: u32)
+    ensures unseats { AreUnseated clients.old.items clients.new.items place desk (length clients.old.items) }
+    ensures due { (due : DueValue) → AreDue clients.old.items due heard.old → AreDue clients.new.items due heard.new }
+{
+    for other in 0..clients.len() {
+        unseat_beside(clients, heard, place, other, desk);
+    }
+}
+
+// The client at a place has perhaps become a desk: then every other client that is the desk is to be closed.
+fn seat(register: &mut Register, clients: &mut Vec<Option<Client>>, heard: &mut Due, place: u16)
+    requires { AreSeated clients.old.items (length register.old.desks) }
+    ensures register { register.new ≡ register.old }
+    ensures alone { (client : ClientValue) → get_or clients.old.items place None ≡ Some client
+        → clients.new.items ≡ alone clients.old.items place client client.desk }
+    ensures due { (due : DueValue) → AreDue clients.old.items due heard.old → AreDue clients.new.items due heard.new }
+{
+    if let Some(desk) = desk_of(clients, place) {
+        let _ = register.replace_client(desk, place);
+        unseat_others(clients, heard, place, desk);
     }
 }
 

@@ -2,13 +2,13 @@
 ghost use Rattle.nrm_hub.specs.Desks.{DesksAreServed, RightsHold, RowsGiveTheState};
 
 /// Whatever happens at the desks, in whatever order: all that was carried out is one run of the session; the rows that were given out are just
-/// those of what was carried out, with their replies; each client is sent the replies to its own lines, in order, and none before the rows of all
-/// that was answered before are kept; of each desk each number is carried out at most once, and a line that comes again gets the reply that it had.
+/// those of what was carried out, with their replies; each client is sent the replies to its own lines, in order, none before the rows of all that
+/// was answered before are kept, and all of them where no word is awaited; of each desk each number is carried out at most once, and a line that comes again gets the reply that it had.
 pub fn desks_are_served()
     ensures { DesksAreServed }
 {}
 
-/// A line of a command beyond a client's rights changes nothing.
+/// A line beyond a client's rights, be it a greeting, `ask` or a command, changes nothing, and is told so.
 pub fn rights_hold()
     ensures { RightsHold }
 {}

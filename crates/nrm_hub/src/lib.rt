@@ -3,10 +3,10 @@
 //!
 //! A reader begins with what may happen, in specs/World, and with the theorem above it, in specs/Desks. The calls of `Hub`, in their
 //! order, as in the test `desks_go_on_behind_their_rows`:
-//! - `new`, of a controller that has just begun; `again` gives it the rows of the journal;
+//! - `new`, of a controller that has just begun; `again` gives it the rows of the journal, and `ready` says that these were all;
 //! - `open`, `came` and `gone`: a client comes, its bytes do, and it is gone;
 //! - `take_round` gives each client its turn, and then gives out the rows of all that was answered;
-//! - `kept` says that these rows are kept, and `tell_all` sends the replies and closes who is to be closed;
+//! - `kept` says that these rows are kept: it sends the replies, and closes who is to be closed;
 //! - `ended`, of the last frame.
 #![tactic(auto)]
 

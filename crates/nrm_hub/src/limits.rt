@@ -18,5 +18,8 @@ pub const MOST_LINE: usize = 1_000;
 /// The most bytes of a client that wait to be used.
 pub const MOST_WAITING: usize = 131_072;
 
+/// The most clients that may have been opened: each has a serial number of its own.
+pub const MOST_OPENED: u64 = 18_446_744_073_709_551_615;
+
 /// How many lines of a client are taken at a time. Of those that may take long, it is one.
 pub const MOST_LINES: u32 = 100;

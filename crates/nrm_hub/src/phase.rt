@@ -1,12 +1,18 @@
-//! Whether what was answered is kept.
+//! What the hub awaits.
 
-/// Whether what was answered is kept.
+/// What the hub awaits.
 #[derive(Clone, Copy, Debug, PartialEq, Eq)]
 pub enum Phase {
-    /// All that was answered is kept: what waits for clients may be sent.
+    /// Rows of the journal, which are given again, until it is said that these were all.
+    Replaying,
+    /// Lines: all that was answered is kept, and was sent.
     Settled,
-    /// Lines were answered since: nothing may be sent.
+    /// More lines, or that each client had its turn: lines were answered since, or clients are to be closed. Nothing may be sent.
     Answering,
-    /// The rows were given out, and the word that they are kept is awaited: no line is taken.
+    /// The word that the rows that were given out are kept: no line is taken.
     Asked,
+    /// Nothing: what waits for clients is being sent.
+    Telling,
+    /// Nothing more: the last frame came.
+    Ended,
 }

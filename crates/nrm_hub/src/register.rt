@@ -313,7 +313,7 @@ impl Register {
         ensures joins { IfOk result (λ desk. Joins spare self.old name.now self.new desk) }
         ensures within { IfOk result (λ desk. desk < length self.new.desks) }
         ensures err { OnErr result (self.new ≡ self.old) }
-        ensures cause { IfErr result (IsJoinFault spare self.old) }
+        ensures cause { IfErr result (IsJoinFault name.now spare self.old) }
     {
         let Some(desk) = spare else {
             return Err(JoinFault::TooMany);
@@ -331,7 +331,7 @@ impl Register {
         ensures joins { IfOk result (λ desk. Joins spare self.old name.now self.new desk) }
         ensures within { IfOk result (λ desk. desk < length self.new.desks) }
         ensures err { OnErr result (self.new ≡ self.old) }
-        ensures cause { IfErr result (IsJoinFault spare self.old) }
+        ensures cause { IfErr result (IsJoinFault name.now spare self.old) }
     {
         let desk = self.desks.len();
         if desk >= MOST_DESKS {
@@ -358,7 +358,7 @@ impl Register {
         ensures joins { IfOk result (λ desk. Joins spare self.old name.now self.new desk) }
         ensures within { IfOk result (λ desk. desk < length self.new.desks) }
         ensures err { OnErr result (self.new ≡ self.old) }
-        ensures cause { IfErr result (IsJoinFault spare self.old) }
+        ensures cause { IfErr result (IsJoinFault name.now spare self.old) }
     {
         match self.names.number_of(name) {
             Some(desk) => Ok(desk as u32),

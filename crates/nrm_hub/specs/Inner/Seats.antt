@@ -1,10 +1,10 @@
 -- The clients of a hub by their places.
-use Rattle.std.specs.Prelude.{ℕ, ◌≡◌, ◌<◌, ◌≤◌, ◌⊎◌, List, [], ◌++◌, get_or, replicate, slice_set, Option, Some, None}
+use Rattle.std.specs.Prelude.{ℕ, ◌≡◌, ◌≢◌, ◌<◌, ◌≤◌, ◌⊎◌, Bool, true, false, List, [], ◌++◌, get_or, is_some, length, option_map, replicate, slice_set, Option, Some, None}
 use Rattle.nrm_frames.specs.declared.limits.TheConstants.{LAST_PLACE}
 use Rattle.nrm_frames.specs.declared.why.Why.{Why}
 use Rattle.nrm_hub.specs.Clients.{ClientValue, closed_for}
-use Rattle.nrm_hub.specs.Hub.{HubValue, client_at}
-use Rattle.nrm_hub.specs.Inner.Taking.{IsTook}
+use Rattle.nrm_hub.specs.Hub.{unseated}
+use Rattle.nrm_hub.specs.Inner.Taking.{Came, IsTook}
 use Rattle.nrm_hub.specs.Register.{RegisterValue}
 use Rattle.nrm_hub.specs.Spare.{IsSpare}
 use Rattle.nrm_hub.specs.Due.{DueValue, IsDue, due_at}
@@ -13,15 +13,32 @@ use Rattle.nrm_hub.specs.World.{TakesNothing}
 use Rattle.nrm_hub.specs.declared.client.Took.{Took}
 use Rattle.nrm_hub.specs.declared.client.Took.TheVariants as took
 
--- the client at a place is this desk
-abbrev pub IsDeskAt : HubValue → ℕ → ℕ → Type 0
-IsDeskAt h place desk = (c : ClientValue) × (client_at h place ≡ Some c) × (c.desk ≡ Some desk)
-
 -- the client at a place is to be closed; or nobody is there, or one who is to be closed already
-pub data ClosesAt (clients : List (Option ClientValue)) (place : ℕ) (reason : Why) : List (Option ClientValue) → Type 0 where
+pub data ClosesAt (clients : List (Option ClientValue)) (place : ℕ) (reason : Why) : List (Option ClientValue) → Bool → Type 0 where
   closes : (c : ClientValue) → get_or clients place None ≡ Some c → c.closing ≡ None
-      → ClosesAt clients place reason (slice_set clients place (Some (closed_for c reason)))
-  stays : TakesNothing (get_or clients place None) → ClosesAt clients place reason clients
+      → ClosesAt clients place reason (slice_set clients place (Some (closed_for c reason))) true
+  stays : TakesNothing (get_or clients place None) → ClosesAt clients place reason clients false
+
+-- a piece came from the client at a place, which is perhaps to be closed by that; or nobody is there, or one who is to be closed
+pub data CameAt (clients : List (Option ClientValue)) (place : ℕ) (piece : List ℕ) : List (Option ClientValue) → Bool → Type 0 where
+  came : (c c' : ClientValue) → get_or clients place None ≡ Some c → c.closing ≡ None → Came c c' piece
+      → CameAt clients place piece (slice_set clients place (Some c')) (is_some c'.closing)
+  passed_by : TakesNothing (get_or clients place None) → CameAt clients place piece clients false
+
+-- every client among so many that is this desk is to be closed, but for the one at a place
+pub record AreUnseated (old new : List (Option ClientValue)) (place desk count : ℕ) : Type 0 where
+  pub many : length new ≡ length old
+  pub others : (other : ℕ) → other < count → other ≢ place → get_or new other None ≡ option_map (unseated desk) (get_or old other None)
+  pub same : (other : ℕ) → (count ≤ other) ⊎ (other ≡ place) → get_or new other None ≡ get_or old other None
+
+-- one of them is, but for the one at this place
+pub record UnseatsBeside (old new : List (Option ClientValue)) (place desk other : ℕ) : Type 0 where
+  pub stays : other ≡ place → new ≡ old
+  pub goes : other ≢ place → new ≡ slice_set old other (option_map (unseated desk) (get_or old other None))
+
+-- all that was to be told to the client at a place was sent
+abbrev pub IsToldAt : List (Option ClientValue) → ℕ → Type 0
+IsToldAt clients place = (c : ClientValue) → get_or clients place None ≡ Some c → (c.told ≡ []) × (c.used ≡ 0)
 
 -- what was taken of the client at a place; or nobody is there of whom a line is taken
 pub data TakesAt (spare : Option ℕ) (r r' : RegisterValue) (clients : List (Option ClientValue)) (place : ℕ) : List (Option ClientValue) → Took → Type 0 where
@@ -63,7 +80,7 @@ OthersStay old new place = (other : ℕ) → (other ≡ place) ⊎ (get_or new o
 
 -- what waited for the client at a place was sent, and all others are as they were
 pub record WasSent (old new : List (Option ClientValue)) (place : ℕ) : Type 0 where
-  pub sent : (c : ClientValue) → get_or new place None ≡ Some c → (c.told ≡ []) × (c.used ≡ 0)
+  pub sent : IsToldAt new place
   pub others : OthersStay old new place
 
 -- the client at a place was closed, if it was to be, and all others are as they were

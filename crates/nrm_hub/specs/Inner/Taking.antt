@@ -2,11 +2,12 @@
 use Rattle.std.specs.Prelude.{ℕ, ◌≡◌, ◌==◌, ◌+◌, ◌<◌, ◌≤◌, ◌⊎◌, false, List, All, drop, length, position, take, Option, Some, None, ⊤}
 use Rattle.nrm_frames.specs.declared.why.Why.TheVariants as why
 use Rattle.nrm_hub.specs.Clients.{ClientValue, Hears, after_line, closed_for, joined_as, with_piece}
+use Rattle.nrm_hub.specs.Asked.{asked_in}
 use Rattle.nrm_hub.specs.Lines.{How, memory_line}
 use Rattle.nrm_hub.specs.Register.{Joins, RegisterValue, desk_at}
 use Rattle.nrm_hub.specs.Taking.{TakesLine}
 use Rattle.nrm_hub.specs.Waiting.{HasNoLine}
-use Rattle.nrm_hub.specs.World.{IsTooMuch}
+use Rattle.nrm_hub.specs.World.{IsNoGreeting, IsTooMuch}
 use Rattle.nrm_hub.specs.declared.limits.TheConstants.{MOST_LINE, MOST_WAITING}
 use Rattle.nrm_hub.specs.declared.client.Took.{Took}
 use Rattle.nrm_hub.specs.declared.client.Took.TheVariants as took
@@ -50,7 +51,7 @@ GoesWithout c c' end join.TooMany = c' ≡ closed_for (after_line c (take end c.
 -- it was taken, by a client that perhaps became a desk before
 pub data Begins (spare : Option ℕ) (r r' : RegisterValue) (c c' : ClientValue) (end : ℕ) : Type 0 where
   taken : TakesIts spare r r' c c' end → Begins spare r r' c c' end
-  joined : (mid : RegisterValue) (d : ℕ) → c.desk ≡ None → Joins spare r c.name mid d
+  joined : (mid : RegisterValue) (d : ℕ) → c.desk ≡ None → IsNoGreeting (asked_in (take end c.coming)) → Joins spare r c.name mid d
       → TakesIts spare mid r' (joined_as c d (desk_at mid d).next) c' end → Begins spare r r' c c' end
 
 -- a line was taken, or none; or a line is too long

@@ -15,7 +15,9 @@ returns-then-row-number-clause-cause c =
     ]
 
 pub returns-in-Err-TooMany-clause-cause : goal.returns-in-Err-TooMany-clause-cause
-returns-in-Err-TooMany-clause-cause c = (ap (λ (n : ℕ). n + 1) c.rows-number.ensures.rows, many_desks (rw c.in-Err-TooMany.field-0-is at c.in-Err-TooMany.ensures.cause).0)
+returns-in-Err-TooMany-clause-cause c =
+    let cause = rw c.in-Err-TooMany.field-0-is at c.in-Err-TooMany.ensures.cause in
+    (ap (λ (n : ℕ). n + 1) c.rows-number.ensures.rows, many_desks cause.0 cause.1)
 
 pub returns-then-row-next_of-clause-cause : goal.returns-then-row-next_of-clause-cause
 returns-then-row-next_of-clause-cause c =

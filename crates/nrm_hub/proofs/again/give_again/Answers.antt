@@ -4,7 +4,7 @@ use Rattle.std.proofs.lemmas.List.{length-take-le}
 use Rattle.std.proofs.lemmas.Result.{err_from_is_err_and}
 use Rattle.nrm_hub.specs.Again.{StopsAt, unended}
 use Rattle.nrm_hub.specs.declared.again.AgainFault.TheVariants as fault
-use Rattle.nrm_hub.proofs.AgainRows.{end-within, first-line, none-yet, one-more, one-part, stops-here, stops-there, whole-front, with-end}
+use Rattle.nrm_hub.proofs.AgainRows.{end-within, first-line, none-yet, one-more, one-part, some-waits, stops-here, stops-there, whole-front, with-end}
 use Rattle.nrm_hub.proofs.again.give_again.Goals as goal
 
 pub loop-rest-init : goal.loop-rest-init
@@ -15,7 +15,7 @@ returns-in_default-clause-fails c =
     let rest : List ℕ = c.loop-rest.rest.now in
     let stops : StopsAt c.loop-rest.register rest (fault.NoRow (c.rows.result + 1)) =
     subst (λ (n : ℕ). StopsAt c.loop-rest.register rest (fault.NoRow (n + 1))) (sym c.rows.ensures.rows)
-    (unended (one-part rest c.in_default.ensures)) in
+    (unended (some-waits rest c.is_empty.result c.is_empty.ensures c.loop-rest-test.true) (one-part rest c.in_default.ensures)) in
     stops-here c.args.register.now c.loop-rest.register c.args.payload.now rest (fault.NoRow (c.rows.result + 1)) c.loop-rest.invariant stops
 
 pub slice_bounds-row_again-end : goal.slice_bounds-row_again-end

@@ -12,7 +12,7 @@ use Rattle.nrm_hub.proofs.line.carry.Goals as goal
 pub returns-then-rows-ge-MOST_ROWS : goal.returns-then-rows-ge-MOST_ROWS
 returns-then-rows-ge-MOST_ROWS c = λ line says.
     let full : MOST_ROWS ≤ c.args.register.now.rows = omega (arith, c.rows.ensures.rows) in
-    (is_full c.args.command.now says c.requires.changes full, refl, refl)
+    (is_full c.args.command.now says c.requires.allowed c.requires.changes c.requires.new full, refl, refl)
 
 pub tell_carried-requires : goal.tell_carried-requires
 tell_carried-requires c = record {
@@ -25,10 +25,11 @@ pub returns-in-Err : goal.returns-in-Err
 returns-in-Err c = λ line says.
     let r = c.args.register.now in
     let told = c.args.told.now.waiting in
+    let room : r.rows < MOST_ROWS = omega (arith, c.rows.ensures.rows) in
     subst (λ (r' : RegisterValue). IsAnswered r r' c.args.asker.rights c.args.asker.desk c.args.asker.sequence line told
     c.tell.new.told.waiting c.tell.result) (sym c.in-Err.ensures.err)
     (answered-line r r c.args.asker.rights c.args.asker.desk c.args.asker.sequence line told c.tell.new.told.waiting otherwise memory_line
-    c.tell.result (lacks c.args.command.now says c.requires.allowed c.requires.changes) c.tell.ensures)
+    c.tell.result (lacks c.args.command.now says c.requires.allowed c.requires.changes c.requires.new room) c.tell.ensures)
 
 pub returns-in-Ok : goal.returns-in-Ok
 returns-in-Ok c = λ line says.

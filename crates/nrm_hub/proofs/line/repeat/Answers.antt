@@ -23,7 +23,7 @@ returns-in-Some c = λ line says.
 
 pub returns-in-Some-2 : goal.returns-in-Some-2
 returns-in-Some-2 c = λ line says. (
-  is_other c.args.command.now c.in-Some.row says c.requires.changes c.requires.used (sym c.in-Some.ensures.row)
+  is_other c.args.command.now c.in-Some.row says c.requires.allowed c.requires.changes c.requires.used (sym c.in-Some.ensures.row)
       (sym c.is_same.ensures ∙ c.if-is_same.false),
   refl,
   refl,
@@ -31,8 +31,8 @@ returns-in-Some-2 c = λ line says. (
 
 pub returns-in-None : goal.returns-in-None
 returns-in-None c = λ line says. (
-  subst (λ (reason : Why). Refuses c.args.register.now c.args.asker.desk c.args.asker.sequence line reason) (sym c.reason_used.ensures)
-      (is_used c.args.command.now says c.requires.changes c.requires.used (sym c.in-None.ensures.row)),
+  subst (λ (reason : Why). Refuses c.args.register.now c.args.asker.rights c.args.asker.desk c.args.asker.sequence line reason) (sym c.reason_used.ensures)
+      (is_used c.args.command.now says c.requires.allowed c.requires.changes c.requires.used (sym c.in-None.ensures.row)),
   refl,
   refl,
 )

@@ -1,10 +1,12 @@
 -- A greeting.
-use Rattle.std.proofs.Common.{ℕ, ◌≡◌, ◌∙◌, List, ap, subst, true, false}
+use Rattle.std.proofs.Common.{ℕ, ◌≡◌, ◌∙◌, List, Some, ap, refl, subst, true, false}
 use Rattle.std.specs.Prelude.{unwrap_or}
 use Rattle.nrm_hub.specs.Clients.{ClientValue}
 use Rattle.nrm_hub.specs.Inner.Taking.{Excuses}
 use Rattle.nrm_hub.specs.Lines.{at_line}
-use Rattle.nrm_hub.specs.Taking.{may_greet}
+use Rattle.nrm_hub.specs.Taking.{may_greet, name_by}
+use Rattle.nrm_hub.specs.declared.asked.Asked.{Asked}
+use Rattle.nrm_hub.specs.declared.asked.Asked.TheVariants as asked
 use Rattle.nrm_hub.proofs.ClientLines.{greeted, not-greeted, without}
 use Rattle.nrm_hub.proofs.client.Client.greet.Goals as goal
 
@@ -27,5 +29,9 @@ returns-in-Ok c =
     (subst (λ (x : ClientValue). Excuses x c.excuse-in-Ok.new.self c.args.end (at_line n)) c.seat.ensures hears)
 
 pub returns-in-Err : goal.returns-in-Err
-returns-in-Err c = without c.args.spare c.args.register.now c.join.new.self c.args.self.now c.go_without.new.self c.args.end c.in-Err.fault c.requires.first
-    c.in-Err.ensures.err c.in-Err.ensures.cause c.go_without.ensures
+returns-in-Err c =
+    let may : may_greet c.args.self.now c.args.name.now ≡ true = cc in
+    let named : name_by c.args.self.now (asked.Greeting c.args.name.now c.args.number) ≡ Some c.args.name.now = rw may refl in
+    without c.args.spare c.args.register.now c.join.new.self c.args.self.now c.go_without.new.self c.args.end c.args.name.now c.in-Err.fault
+    c.requires.first (ap (λ (a : Asked). name_by c.args.self.now a) c.requires.greeting ∙ named) c.in-Err.ensures.err c.in-Err.ensures.cause
+    c.go_without.ensures

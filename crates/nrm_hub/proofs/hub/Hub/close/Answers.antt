@@ -14,6 +14,7 @@ use Rattle.nrm_hub.proofs.HubPlaces.{place-within}
 use Rattle.nrm_hub.proofs.HubPuts.{puts-nothing, puts-one, puts-one-cut}
 use Rattle.nrm_hub.proofs.HubSteps.{goes-shut}
 use Rattle.nrm_hub.proofs.OfFields.{hub_of}
+use Rattle.nrm_hub.proofs.Phases.{telling-unreplayed, telling-unsettled}
 use Rattle.nrm_hub.proofs.hub.Hub.close.Goals as goal
 
 pub returns-in_default-clause-puts : goal.returns-in_default-clause-puts
@@ -30,7 +31,7 @@ returns-clause-puts g c =
     let output : Output = close c.args.place c.in-Some-closing.why in
     let goes : Goes c.args.self.now new [] (output ∷ []) =
     goes-shut old c.args.self.now c.args.place c.in-Some.client.now c.closing.result c.in-Some-closing.why c.self.view_is c.in-Some.ensures
-    c.closing.ensures c.in-Some-closing.is c.requires in
+    c.closing.ensures c.in-Some-closing.is c.requires.told c.requires.telling in
     on_ok_weaker c.put_close.result
     (λ whole. puts-one c.args.self.now new output (held c.args.sink.now) (held c.put_close.new.sink) goes whole) c.put_close.ensures.whole
 
@@ -42,7 +43,7 @@ returns-clause-cut g c =
     let output : Output = close c.args.place c.in-Some-closing.why in
     let goes : Goes c.args.self.now new [] (output ∷ []) =
     goes-shut old c.args.self.now c.args.place c.in-Some.client.now c.closing.result c.in-Some-closing.why c.self.view_is c.in-Some.ensures
-    c.closing.ensures c.in-Some-closing.is c.requires in
+    c.closing.ensures c.in-Some-closing.is c.requires.told c.requires.telling in
     on_err_weaker c.put_close.result
     (λ front. puts-one-cut c.args.self.now new output (held c.args.sink.now) (held c.put_close.new.sink) goes front) c.put_close.ensures.cut
 
@@ -53,6 +54,8 @@ invariant_of-self g c =
     (ap (λ (h : HubValue). client_at h c.args.place) c.self.view_is ∙ c.in-Some.ensures) in (
       All-set (IsSeated (length c.self.inside.register.desks)) clients c.args.place None tt c.self.invariant.0,
       set-nobody clients c.self.inside.due c.self.inside.heard c.args.place within c.self.invariant.1,
+      λ e. absurd (telling-unreplayed c.self.inside.phase (ap (λ (h : HubValue). h.phase) c.self.view_is ∙ c.requires.telling) e),
+      λ e. absurd (telling-unsettled c.self.inside.phase (ap (λ (h : HubValue). h.phase) c.self.view_is ∙ c.requires.telling) e),
     )
 
 pub returns-in_default-clause-closed : goal.returns-in_default-clause-closed

@@ -1,22 +1,62 @@
 -- The client at the place is to be closed.
-use Rattle.std.proofs.Common.{length, refl}
+use Rattle.std.proofs.Common.{◌≡◌, ◌∙◌, true, false, ap, length, refl, subst, sym}
 use Rattle.nrm_frames.specs.declared.why.Why.TheVariants as why
-use Rattle.nrm_hub.specs.Hub.{HubValue}
+use Rattle.nrm_hub.specs.Hub.{HubValue, after_closing, takes_frames}
+use Rattle.nrm_hub.specs.Inner.Seats.{ClosesAt}
+use Rattle.nrm_hub.specs.Seats.{IsHub}
+use Rattle.nrm_hub.specs.declared.phase.Phase.{Phase}
 use Rattle.nrm_hub.proofs.Going.{goes-same}
+use Rattle.nrm_hub.proofs.HubInvariants.{replayed-after, told-closes}
 use Rattle.nrm_hub.proofs.HubPlaces.{closes-seated}
 use Rattle.nrm_hub.proofs.HubSteps.{goes-gone}
 use Rattle.nrm_hub.proofs.OfFields.{hub_of}
 use Rattle.nrm_hub.proofs.hub.Hub.gone.Goals as goal
 
-pub invariant_of-self : goal.invariant_of-self
-invariant_of-self c = (
-  closes-seated c.self.inside.clients.items c.close_at.new.clients.items (length c.self.inside.register.desks) c.args.place why.Gone
-      c.close_at.ensures.closes c.self.invariant.0,
-  c.close_at.ensures.due c.self.invariant.1,
-)
+frames-come : (h h' : HubValue) → h ≡ h' → takes_frames h'.phase ≡ true → takes_frames h.phase ≡ true
+frames-come h h' is frames = ap (λ (x : HubValue). takes_frames x.phase) is ∙ frames
 
-pub returns-clause-goes : goal.returns-clause-goes
-returns-clause-goes c =
+pub invariant_of-self : goal.invariant_of-self
+invariant_of-self c =
     let old : HubValue = hub_of c.self.inside.register c.self.inside.clients.items c.self.inside.opened c.self.inside.phase in
-    let new : HubValue = record old { clients = c.close_at.new.clients.items } in
-    goes-same old c.args.self.now new new _ _ c.self.view_is refl (goes-gone old c.args.place new.clients c.close_at.ensures.closes)
+    let clients = c.close_at-closes.new.clients.items in
+    let frames : takes_frames old.phase ≡ true = frames-come old c.args.self.now c.self.view_is c.requires in
+    let so : ClosesAt old.clients c.args.place why.Gone clients true = subst (ClosesAt old.clients c.args.place why.Gone clients) c.if-closes.true c.close_at-closes.ensures.closes in
+    subst (λ (p : Phase). IsHub old.register clients c.close_at-closes.new.due c.close_at-closes.new.heard p) (sym c.after_closing-self-inside.ensures) (
+      closes-seated old.clients clients (length old.register.desks) c.args.place why.Gone so c.self.invariant.0,
+      c.close_at-closes.ensures.due c.self.invariant.1,
+      λ e. absurd (replayed-after true old.phase frames e),
+      λ e. told-closes old.clients clients c.args.place why.Gone true old.phase so c.self.invariant.3 e,
+    )
+
+pub invariant_of-self-else-closes : goal.invariant_of-self-else-closes
+invariant_of-self-else-closes c =
+    let old : HubValue = hub_of c.self.inside.register c.self.inside.clients.items c.self.inside.opened c.self.inside.phase in
+    let clients = c.close_at-closes.new.clients.items in
+    let frames : takes_frames old.phase ≡ true = frames-come old c.args.self.now c.self.view_is c.requires in
+    let so : ClosesAt old.clients c.args.place why.Gone clients false = subst (ClosesAt old.clients c.args.place why.Gone clients) c.if-closes.false c.close_at-closes.ensures.closes in (
+      closes-seated old.clients clients (length old.register.desks) c.args.place why.Gone so c.self.invariant.0,
+      c.close_at-closes.ensures.due c.self.invariant.1,
+      λ e. absurd (replayed-after false old.phase frames e),
+      λ e. told-closes old.clients clients c.args.place why.Gone false old.phase so c.self.invariant.3 e,
+    )
+
+pub returns-then-closes-clause-goes : goal.returns-then-closes-clause-goes
+returns-then-closes-clause-goes c =
+    let old : HubValue = hub_of c.self.inside.register c.self.inside.clients.items c.self.inside.opened c.self.inside.phase in
+    let clients = c.close_at-closes.new.clients.items in
+    let frames : takes_frames old.phase ≡ true = frames-come old c.args.self.now c.self.view_is c.requires in
+    let so : ClosesAt old.clients c.args.place why.Gone clients true = subst (ClosesAt old.clients c.args.place why.Gone clients) c.if-closes.true c.close_at-closes.ensures.closes in
+    let closed : HubValue = record old { clients = clients; phase = after_closing old.phase } in
+    let new : HubValue = record old { clients = clients; phase = c.after_closing-self-inside.result } in
+    goes-same old c.args.self.now closed new _ _ c.self.view_is
+    (ap (λ (p : Phase). let h : HubValue = record old { clients = clients; phase = p } in h) (sym c.after_closing-self-inside.ensures))
+    (goes-gone old c.args.place clients true frames so)
+
+pub returns-else-closes-clause-goes : goal.returns-else-closes-clause-goes
+returns-else-closes-clause-goes c =
+    let old : HubValue = hub_of c.self.inside.register c.self.inside.clients.items c.self.inside.opened c.self.inside.phase in
+    let clients = c.close_at-closes.new.clients.items in
+    let frames : takes_frames old.phase ≡ true = frames-come old c.args.self.now c.self.view_is c.requires in
+    let so : ClosesAt old.clients c.args.place why.Gone clients false = subst (ClosesAt old.clients c.args.place why.Gone clients) c.if-closes.false c.close_at-closes.ensures.closes in
+    let new : HubValue = record old { clients = clients } in
+    goes-same old c.args.self.now new new _ _ c.self.view_is refl (goes-gone old c.args.place clients false frames so)

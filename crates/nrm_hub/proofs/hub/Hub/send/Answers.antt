@@ -6,15 +6,15 @@ use Rattle.nrm_frames.specs.Outgoing.{Output, send}
 use Rattle.nrm_hub.specs.Goes.{Goes}
 use Rattle.nrm_hub.specs.Hub.{HubValue, client_at}
 use Rattle.nrm_hub.specs.Clients.{ClientValue, after_telling}
-use Rattle.nrm_hub.specs.Due.{AreDue}
 use Rattle.nrm_hub.specs.Inner.Seats.{WasSent}
-use Rattle.nrm_hub.specs.Seats.{AreSeated}
 use Rattle.std.proofs.lemmas.List.{get_or_past}
+use Rattle.nrm_hub.specs.Seats.{IsHub}
 use Rattle.nrm_hub.proofs.DuePlaces.{none-waits, sent-already, sent-as, sent-nobody, sent-now, set-sent}
 use Rattle.nrm_hub.proofs.HubPlaces.{at-place, seated-set, unchanged}
 use Rattle.nrm_hub.proofs.HubPuts.{puts-nothing, puts-one, puts-one-cut, puts-still}
 use Rattle.nrm_hub.proofs.HubSteps.{goes-sent, same-clients}
 use Rattle.nrm_hub.proofs.OfFields.{hub_of}
+use Rattle.nrm_hub.proofs.Phases.{telling-unreplayed, telling-unsettled}
 use Rattle.nrm_hub.proofs.hub.Hub.send.Goals as goal
 
 pub returns-then-at-len-clause-puts : goal.returns-then-at-len-clause-puts
@@ -73,14 +73,14 @@ pub invariant_of-self : goal.invariant_of-self
 invariant_of-self g c =
     let clients = c.self.inside.clients.items in
     let within : c.args.place < length clients = omega (arith, c.self.inside.clients.ok.0) in
-    subst (λ (cs : List (Option ClientValue)). AreSeated cs (length c.self.inside.register.desks) × AreDue cs c.self.inside.due c.self.inside.heard)
+    subst (λ (cs : List (Option ClientValue)). IsHub c.self.inside.register cs c.self.inside.due c.self.inside.heard c.self.inside.phase)
     (sym (unchanged clients c.args.place c.index_mut.result.now within c.index_mut.ensures.value)) c.self.invariant
 
 pub invariant_of-self-then-is_empty : goal.invariant_of-self-then-is_empty
 invariant_of-self-then-is_empty g c =
     let clients = c.self.inside.clients.items in
     let within : c.args.place < length clients = omega (arith, c.self.inside.clients.ok.0) in
-    subst (λ (cs : List (Option ClientValue)). AreSeated cs (length c.self.inside.register.desks) × AreDue cs c.self.inside.due c.self.inside.heard)
+    subst (λ (cs : List (Option ClientValue)). IsHub c.self.inside.register cs c.self.inside.due c.self.inside.heard c.self.inside.phase)
     (sym (unchanged clients c.args.place (Some c.in-Some.client) within
     (sym c.in-Some.is ∙ c.index_mut.ensures.value ∙ ap (λ (x : Option ClientValue). get_or clients c.args.place x) c.in-Some.is))) c.self.invariant
 
@@ -93,10 +93,12 @@ invariant_of-self-2 g c =
     at-place clients c.args.place c.index_mut.result.now within c.index_mut.ensures.value ∙ c.in-Some.is in
     let due = c.self.inside.due in
     let heard = c.self.inside.heard in
-    subst (λ (x : ClientValue). AreSeated (slice_set clients c.args.place (Some x)) desks × AreDue (slice_set clients c.args.place (Some x)) due heard)
+    subst (λ (x : ClientValue). IsHub c.self.inside.register (slice_set clients c.args.place (Some x)) due heard c.self.inside.phase)
     (sym c.was_told.ensures) (
       seated-set clients desks c.args.place c.in-Some.client (after_telling c.in-Some.client) there refl c.self.invariant.0,
       set-sent clients due heard c.args.place c.in-Some.client there c.self.invariant.1,
+      λ e. absurd (telling-unreplayed c.self.inside.phase (ap (λ (h : HubValue). h.phase) c.self.view_is ∙ c.requires) e),
+      λ e. absurd (telling-unsettled c.self.inside.phase (ap (λ (h : HubValue). h.phase) c.self.view_is ∙ c.requires) e),
     )
 
 pub returns-then-at-len-clause-sent : goal.returns-then-at-len-clause-sent

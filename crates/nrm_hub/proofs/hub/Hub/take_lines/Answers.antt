@@ -8,7 +8,7 @@ use Rattle.nrm_hub.proofs.hub.Hub.take_lines.Goals as goal
 pub loop-init : goal.loop-init
 loop-init c = record {
   goes = c.take_line-took.ensures.goes;
-  unasked = c.take_line-took.ensures.phase;
+  lines = c.take_line-took.ensures.phase;
   turn = c.take_line-took.ensures.turn;
 }
 
@@ -18,7 +18,7 @@ loop-preserved c =
     let next = c.take_line-took-in-Line in
     record {
       goes = goes-on c.args.self.now l.self next.new.self [] [] l.invariant.goes next.ensures.goes;
-      unasked = next.ensures.phase;
+      lines = next.ensures.phase;
       turn = makes-then HadTurn c.args.self.now.clients l.self.clients next.new.self.clients c.args.place l.invariant.turn.only next.ensures.turn;
     }
 

@@ -10,7 +10,7 @@ use Rattle.nrm_hub.proofs.hub.Hub.take_turns.Goals as goal
 pub loop-at-init : goal.loop-at-init
 loop-at-init c = record {
   goes = goes-nothing c.args.self.now;
-  unasked = c.requires;
+  lines = c.requires;
   so = none-so HadTurn c.args.self.now.clients c.args.listed.now;
 }
 
@@ -20,7 +20,7 @@ loop-at-preserved c =
     let new = c.take_turn.new.self in
     record {
       goes = goes-on c.args.self.now l.self new [] [] l.invariant.goes c.take_turn.ensures.goes;
-      unasked = c.take_turn.ensures.phase;
+      lines = c.take_turn.ensures.phase;
       so = one-more HadTurn c.args.self.now.clients l.self.clients new.clients c.args.listed.now l.at c.at.result c.at.ensures l.invariant.so
           c.take_turn.ensures.turn;
     }

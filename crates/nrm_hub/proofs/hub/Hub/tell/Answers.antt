@@ -23,3 +23,6 @@ returns-clause-told g c =
     on_ok_weaker c.close.result
     (λ _. told-at c.args.self.now.clients c.send.new.self.clients c.close.new.self.clients c.args.place c.send.ensures.sent c.close.ensures.closed)
     c.close.ensures.puts
+
+pub close-requires : goal.close-requires
+close-requires g c = record { telling = c.send.ensures.phase; told = c.send.ensures.sent.sent }

@@ -11,7 +11,7 @@ use Rattle.nrm_hub.proofs.hub.Hub.tell_listed.Goals as goal
 pub loop-at-init : goal.loop-at-init
 loop-at-init g c = record {
   puts = puts-nothing c.args.self.now (g.K.Sink.held c.args.sink.now);
-  settled = c.requires;
+  telling = c.requires;
   faults = refl;
   so = none-so IsTold c.args.self.now.clients c.args.listed.now;
 }
@@ -23,14 +23,14 @@ loop-at-preserved g c =
     record {
       puts = puts-then c.args.self.now l.self c.tell.new.self (held c.args.sink.now) (held l.sink) (held c.tell.new.sink)
           l.invariant.puts c.in_ok-tell.ensures.puts;
-      settled = c.in_ok-tell.ensures.phase;
+      telling = c.in_ok-tell.ensures.phase;
       faults = c.in_ok-tell.ensures.cause.done ∙ l.invariant.faults;
       so = one-more IsTold c.args.self.now.clients l.self.clients c.tell.new.self.clients c.args.listed.now l.at c.at.result c.at.ensures l.invariant.so
           c.in_ok-tell.ensures.told;
     }
 
 pub tell-requires : goal.tell-requires
-tell-requires g c = c.loop-at.invariant.settled
+tell-requires g c = c.loop-at.invariant.telling
 
 pub returns-in_err-tell-clause-cut : goal.returns-in_err-tell-clause-cut
 returns-in_err-tell-clause-cut g c =
