@@ -10,6 +10,7 @@ use Rattle.nrm_hub.specs.declared.phase.Phase.TheVariants as phase
 use Rattle.nrm_desks_cli.specs.Jobs.{desks_job_of, usage_line}
 use Rattle.nrm_desks_cli.specs.Numbers.{number_of}
 use Rattle.nrm_desks_cli.specs.Served.{MayNotCome}
+use Rattle.nrm_desks_cli.specs.declared.serving.TheConstants.{MOST_BYTES}
 use Rattle.nrm_desks_cli.specs.declared.status.DesksStatus.TheVariants as status
 
 -- ---- the exit statuses
@@ -95,3 +96,7 @@ module _ (control : ControlValue) where
 
 end_may_come : (hub : HubValue) → MayNotCome hub header.End → ⊥
 end_may_come hub never = never
+
+-- ---- the most bytes that are counted
+most_bytes : MOST_BYTES ≡ 4611686018427387904
+most_bytes = refl

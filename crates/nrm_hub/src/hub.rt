@@ -1,14 +1,13 @@
 //! The hub: what all desks have in common, the clients by their places, whose turn comes, and who is to be told. Lines are taken in turns;
 //! then the rows of all that was answered are given out, and once they are kept the replies are sent.
-ghost use Rattle.std.specs.Prelude.{ℕ, ◌≡◌, ◌≢◌, ◌<◌, ◌≤◌, ◌∷◌, [], get_or, length, option_map, slice_set, Some, None, IfErr, IfSome, MatchBool, MatchOption, OnErr, OnOk, false, true, ◌⊎◌};
+ghost use Rattle.std.specs.Prelude.{ℕ, ◌≡◌, ◌≢◌, ◌<◌, ◌≤◌, ◌∷◌, [], get_or, length, option_map, slice_set, Some, None, IfErr, IfSome, MatchBool, MatchOption, OnErr, OnOk, false, true};
 ghost use Rattle.nrm_edge.specs.Causes.{HasCause};
 ghost use Rattle.nrm_frames.specs.declared.header.Header.TheVariants as header;
 ghost use Rattle.nrm_hub.specs.Again.{FailsAgain};
-ghost use Rattle.nrm_frames.specs.declared.limits.TheConstants.{LAST_PLACE};
-ghost use Rattle.nrm_hub.specs.Due.{AreDue, DueValue, IsDue, StillDue, StillDueBeside, due_count};
+ghost use Rattle.nrm_hub.specs.Due.{AreDue, DueValue, StillDue, due_count};
 ghost use Rattle.nrm_hub.specs.Goes.{Goes, Puts, PutsCut};
 ghost use Rattle.nrm_hub.specs.Hub.{after_closing, alone, client_at, new_hub, takes_frames, takes_lines, unseated};
-ghost use Rattle.nrm_hub.specs.Inner.Seats.{AreListed, AreSo, AreUnseated, CameAt, ClosesAt, HasPlaces, IsQuietAt, IsDeskOf, IsSomebodys, IsToldAt, MakesSo, UnseatsBeside};
+ghost use Rattle.nrm_hub.specs.Inner.Seats.{AreListed, AreSo, AreUnseated, CameAt, ClosesAt, HasPlaces, IsDeskOf, IsSomebodys, IsToldAt, MakesSo, UnseatsBeside};
 ghost use Rattle.nrm_hub.specs.Inner.Seats.{TakesBy, WasClosed, WasSent};
 ghost use Rattle.nrm_hub.specs.Clients.{ClientValue};
 ghost use Rattle.nrm_hub.specs.Seats.{AreSeated, IsOpened};
@@ -21,6 +20,7 @@ use crate::again::{AgainFault, give_again};
 use crate::client::{Client, Took};
 use crate::due::Due;
 use crate::limits::{MOST_DESKS, MOST_LINES, MOST_OPENED};
+use crate::listed::{list, list_came, list_closing, list_more, move_due};
 use crate::phase::Phase;
 use crate::register::Register;
 use nrm_control::Controller;
@@ -488,15 +488,6 @@ impl Hub {
     }
 }
 
-// Something is due at the place of a client.
-fn list(due: &mut Due, client: &mut Client, place: u16)
-    ensures client { client.new ≡ client.old }
-    ensures due { IsDue due.new place }
-    ensures still { StillDue due.old due.new }
-{
-    client.due_at = due.add(client.due_at, place);
-}
-
 // A copy of a list, in the room for it.
 fn copied(alloc: Global, room: &mut Due, listed: &Due) -> Due
     ensures { StillDue listed.now result }
@@ -504,84 +495,6 @@ fn copied(alloc: Global, room: &mut Due, listed: &Due) -> Due
     let mut copy = replace(room, Due::new(alloc));
     copy.copy(listed);
     copy
-}
-
-// A piece came from the client at a place: its turn comes, or it is to be closed.
-fn list_came(due: &mut Due, heard: &mut Due, client: &mut Client, place: u16)
-    ensures client { client.new ≡ client.old }
-    ensures listed { IsDue heard.new place ⊎ ((client.old.closing ≡ None) × IsDue due.new place) }
-    ensures due { StillDueBeside place due.old due.new }
-    ensures heard { StillDue heard.old heard.new }
-{
-    if client.closing().is_none() {
-        list(due, client, place);
-    } else {
-        list_closing(due, heard, client, place);
-    }
-}
-
-// The client at a place is to be closed, so that it has no turn.
-fn list_closing(due: &mut Due, heard: &mut Due, client: &mut Client, place: u16)
-    ensures client { client.new ≡ client.old }
-    ensures listed { IsDue heard.new place }
-    ensures due { StillDueBeside place due.old due.new }
-    ensures heard { StillDue heard.old heard.new }
-{
-    due.strike(client.due_at, place);
-    list(heard, client, place);
-}
-
-// Something is due at the place of a client, unless it is at rest.
-fn list_unless_at_rest(due: &mut Due, client: &mut Client, place: u16)
-    ensures client { client.new ≡ client.old }
-    ensures listed { IsAtRest client.old ⊎ IsDue due.new place }
-    ensures still { StillDue due.old due.new }
-{
-    if !client.is_at_rest() {
-        list(due, client, place);
-    }
-}
-
-// Something is due at a place, unless nobody is there, or one who is at rest.
-fn list_at(clients: &mut Vec<Option<Client>>, due: &mut Due, place: u16)
-    ensures same { clients.new.items ≡ clients.old.items }
-    ensures listed { IsQuietAt clients.old.items place ⊎ IsDue due.new place }
-    ensures still { StillDue due.old due.new }
-{
-    let at = place as usize;
-    if at >= clients.len() {
-        return;
-    }
-    if let Some(client) = &mut clients[at] {
-        list_unless_at_rest(due, client, place);
-    }
-}
-
-// The turn of the client at a place comes, if a line of it waits.
-fn list_more(clients: &mut Vec<Option<Client>>, due: &mut Due, place: u16)
-    ensures same { clients.new.items ≡ clients.old.items }
-    ensures still { StillDue due.old due.new }
-{
-    let at = place as usize;
-    if at >= clients.len() {
-        return;
-    }
-    if let Some(client) = &mut clients[at] {
-        if client.has_line() {
-            list(due, client, place);
-        }
-    }
-}
-
-// Adds the places of a list to another one, but for those where nobody is, or one who is at rest.
-fn move_due(clients: &mut Vec<Option<Client>>, from: &Due, to: &mut Due)
-    ensures same { clients.new.items ≡ clients.old.items }
-    ensures moved { (place : ℕ) → place ≤ LAST_PLACE → IsDue from.now place → IsQuietAt clients.old.items place ⊎ IsDue to.new place }
-    ensures still { StillDue to.old to.new }
-{
-    for at in 0..from.count() {
-        list_at(clients, to, from.at(at));
-    }
 }
 
 // Makes places up to this one.

@@ -19,6 +19,7 @@ mod hub;
 mod laws;
 mod limits;
 mod line;
+mod listed;
 mod outbox;
 mod phase;
 mod register;

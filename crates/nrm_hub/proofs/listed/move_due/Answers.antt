@@ -4,7 +4,7 @@ use Rattle.nrm_hub.specs.Clients.{ClientValue}
 use Rattle.nrm_hub.specs.Due.{IsDue, due_count}
 use Rattle.nrm_hub.specs.Inner.Seats.{IsQuietAt}
 use Rattle.nrm_hub.proofs.DuePlaces.{StayDue, all-stay, none-stay, one-stays, still-same}
-use Rattle.nrm_hub.proofs.hub.move_due.Goals as goal
+use Rattle.nrm_hub.proofs.listed.move_due.Goals as goal
 
 pub loop-at-init : goal.loop-at-init
 loop-at-init c = record { same = refl; still = still-same c.args.to.now; stay = none-stay c.args.clients.now.items c.args.from.now c.args.to.now }

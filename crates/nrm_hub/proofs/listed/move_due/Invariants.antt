@@ -2,7 +2,7 @@
 use Rattle.std.proofs.Common.{◌≡◌}
 use Rattle.nrm_hub.specs.Due.{StillDue}
 use Rattle.nrm_hub.proofs.DuePlaces.{StayDue}
-use Rattle.nrm_hub.proofs.hub.move_due.Given as goal
+use Rattle.nrm_hub.proofs.listed.move_due.Given as goal
 
 abbrev pub invariant-loop-at : goal.invariant-loop-at
 invariant-loop-at l = record {
