@@ -148,9 +148,9 @@ def lines_of(call, files):
         for item in blocks(public):
             if re.search(r"^pub (?:const )?fn " + re.escape(name) + r"\b", item, re.M):
                 found |= named_in(uses, item, files)
-    lines = OrderedDict()
+    reached, lines = with_those_below(found, files), OrderedDict()
     for module in files:
-        if module in with_those_below(found, files):
+        if module in reached:
             kept = [line for line in read(files[module]).split("\n") if line.strip() and not line.startswith("use ")]
             lines[module.partition(".")[0]] = lines.get(module.partition(".")[0], 0) + len(kept)
     return lines
@@ -160,12 +160,12 @@ def main():
     files, order = OrderedDict(), crate_order()
     for crate in order:
         files.update(spec_files(crate))
-    if sys.argv[1:2] == ["--of"] and len(sys.argv) == 3:
-        lines = lines_of(sys.argv[2], files)
+    if sys.argv[1:2] == ["--of"]:
+        lines = lines_of("".join(sys.argv[2:3]), files)
         for crate, count in lines.items():
             print(f"{crate}: {count}")
         if not lines:
-            print(f"tests/definitions.py: no public call {sys.argv[2]} has clauses; say it as CRATE::NAME", file=sys.stderr)
+            print(f"tests/definitions.py: no public call {' '.join(sys.argv[2:3])!r} has clauses; say it as CRATE::NAME", file=sys.stderr)
         return 0 if lines else 2
     reached = set()
     for crate in order:
