@@ -5,7 +5,7 @@
                                     it that one does, is a fault (status 1)
     tests/definitions.py --list     prints the files to read, layer by layer from below, each with its first line
     tests/definitions.py --of CALL  prints how many lines of each crate the clauses of one call reach, such as
-                                    `nrm_desks_cli::run_desks`, with comments, and without empty lines and imports
+                                    `nrm_desks_cli::run_desks`: those of each definition, with the comment above it
 
 A public contract is a clause of a function, method or trait that leaves its crate, or a member of an `impl` of such a
 type. A clause reaches the files that its names come from, and each of those the files that it uses in its turn.
@@ -140,19 +140,53 @@ def with_those_below(modules, files):
     return reached
 
 
-def lines_of(call, files):
-    """How many lines of each crate the clauses of a call reach, such as `nrm_desks_cli::run_desks`."""
-    crate, _, name = call.partition("::")
-    found = set()
+def definitions_of(path):
+    """The definitions of a file, each with the comment above it: (names that it gives, its text without comments, its lines)."""
+    lines = [line for line in read(path).split("\n") if not line.startswith("use ")]
+    for block in "\n".join(lines).split("\n\n"):
+        kept = [line for line in block.split("\n") if line.strip()]
+        text = "\n".join(line for line in kept if not line.lstrip().startswith("--"))
+        names = set(re.findall(r"^(?:abbrev )?pub (?:data |record )?([^\s:]+)", text, re.M))
+        if re.search(r"^pub data ", text, re.M):
+            names |= set(re.findall(r"^  ([^\s:]+) :", text, re.M))
+        if names:
+            yield names, text, len(kept)
+
+
+def words_in(text):
+    """The names that a text has, also those that stand before a point."""
+    words = set(re.findall(r"[^\s(){}\[\],;]+", text))
+    return words | {word.split(".")[0] for word in words}
+
+
+def public_call(crate, name, files):
+    """The definitions that the clauses of a public call name: pairs of a module and a name."""
     for uses, public in public_text(crate):
         for item in blocks(public):
             if re.search(r"^pub (?:const )?fn " + re.escape(name) + r"\b", item, re.M):
-                found |= named_in(uses, item, files)
-    reached, lines = with_those_below(found, files), OrderedDict()
-    for module in files:
-        if module in reached:
-            kept = [line for line in read(files[module]).split("\n") if line.strip() and not line.startswith("use ")]
-            lines[module.partition(".")[0]] = lines.get(module.partition(".")[0], 0) + len(kept)
+                words = words_in(item)
+                yield from ((module, it) for module, names in uses if module in files for it in names if it in words)
+
+
+def lines_of(call, files):
+    """How many lines have the definitions of each crate that the clauses of a call reach, such as `nrm_desks_cli::run_desks`."""
+    crate, _, name = call.partition("::")
+    given = {module: list(definitions_of(path)) for module, path in files.items()}
+    taken = {module: list(imports(read(path), "use")) for module, path in files.items()}
+    queue, reached = list(public_call(crate, name, files)), set()
+    while queue:
+        module, name = queue.pop()
+        for place, (names, text, _) in enumerate(given[module]):
+            if name in names and (module, place) not in reached:
+                reached.add((module, place))
+                words = words_in(text)
+                queue += [(module, it) for others, _, _ in given[module] for it in others & words]
+                queue += [(other, it) for other, its in taken[module] if other in files for it in its if it in words]
+    lines = OrderedDict()
+    for module, definitions in given.items():
+        count = sum(size for place, (_, _, size) in enumerate(definitions) if (module, place) in reached)
+        if count:
+            lines[module.partition(".")[0]] = lines.get(module.partition(".")[0], 0) + count
     return lines
 
 

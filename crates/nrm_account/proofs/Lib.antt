@@ -6,5 +6,6 @@ pub mod Pieces  -- a text of five pieces
 pub mod Bases  -- what seats that are enough are worked out from, as it is told
 pub mod Told  -- lines that a teller read one after another
 pub mod OwnLines  -- what is written as lines are read is the account of the line that is asked for
+pub mod PlanMakers  -- the line that is told as the one that made a plan did make it
 pub mod OneAccount  -- an account gives its reply, and a line has one account
 mod Examples  -- accounts by hand

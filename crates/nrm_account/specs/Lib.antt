@@ -4,6 +4,7 @@ pub mod Largest
 pub mod Laws
 pub mod Lines
 pub mod Nests
+pub mod PlannedBy
 pub mod Readings
 pub mod Tellers
 pub mod Texts

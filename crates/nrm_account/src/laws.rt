@@ -1,6 +1,7 @@
 //! Laws of accounts. Each is the contract of a function that does nothing.
 ghost use Rattle.nrm_account.specs.Laws.{AccountsAnswer, AccountsAreDetermined, AccountsAreOfTheirLines, AccountsGiveReplies};
 ghost use Rattle.nrm_account.specs.Laws.{LargestPartiesAreSold, OutOfMemoryWritesNothing};
+ghost use Rattle.nrm_account.specs.PlannedBy.{PlannedByThatLine};
 
 /// The numbers of the account of a request give its reply by the rule alone.
 pub fn accounts_give_replies()
@@ -26,6 +27,12 @@ pub fn largest_parties_are_sold()
 /// What is written as a session is read is the account of the line that is asked for, in the state that a run over the lines before it comes to.
 pub fn accounts_are_of_their_lines()
     ensures { AccountsAreOfTheirLines }
+{}
+
+/// The line that an account tells as the one that made its plan is the reoptimisation that left this plan; it tells 0 if the plan is the
+/// opening's.
+pub fn plans_are_of_their_lines()
+    ensures { PlannedByThatLine }
 {}
 
 /// If memory runs out for the account, nothing is written.

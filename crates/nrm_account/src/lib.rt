@@ -7,7 +7,7 @@
 //! - `largest_party` gives the most seats of a product of which a request would be sold now.
 //!
 //! The test `each_kind_of_line_is_accounted_for` runs the first two, and `nests_are_accounted_for` in a mode that has nests. The laws say
-//! that an account is that of its line, and gives its reply.
+//! that an account is that of its line, gives its reply, and tells the line that made its plan.
 #![tactic(auto)]
 
 mod largest;
@@ -23,6 +23,6 @@ mod text;
 pub use largest::largest_party;
 pub use laws::{
     accounts_answer, accounts_are_determined, accounts_are_of_their_lines, accounts_give_replies,
-    largest_parties_are_sold, out_of_memory_writes_nothing,
+    largest_parties_are_sold, out_of_memory_writes_nothing, plans_are_of_their_lines,
 };
 pub use teller::{Teller, Telling};

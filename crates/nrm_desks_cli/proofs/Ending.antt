@@ -37,7 +37,7 @@ module _ (asked : Option DesksJob) (before after : Outside) (left : LeftStream b
 
   pub told-ends : (goes s : DesksStatus) (text : List ℕ) → Tells asked before after goes text → PutsLine STATUSES text goes before.held after.held before.sink_faults after.sink_faults s → Ends asked before after s
   told-ends goes s text tells (inl (is, wrote, same)) = rw is (whole goes text tells wrote)
-  told-ends goes s text tells (inr (is, front, rose)) = rw is (rose, inr (inl (record { status = goes; text = text; tells = tells; wrote = front; left = left })))
+  told-ends goes s text tells (inr (is, front, rose)) = rw is (rose, inr (inl (goes, record { text = text; tells = tells; wrote = front; left = left })))
 
 module _ (job : DesksJob) (before after : Outside) (left : LeftStream before after) where
   -- no network
@@ -104,7 +104,7 @@ module _ (asked : Option DesksJob) (before : Outside) (begins : Begins asked bef
   serving-ends end.WriteFault result (served, rose) sank (is, held, faults) =
       rw is (
         subst (λ (k : ℕ). Rose before.sink_faults k) (sym faults) rose,
-        inl (record { begins = begins; served = subst (λ (at : Streams). ServedCut begins.control (streams_at before) at) (same-streams held faults) served }),
+        inl (record { begins = begins; served = subst (λ (at : Streams). ServedCut begins.control (streams_at before) at) (same-streams held faults) served; so = tt }),
       )
   serving-ends end.TooLong result (served, so) sank (is, held, faults) =
       rw is (ran (λ at start (s : Served start (streams_at before) at). IsTooLong s) held faults served so)

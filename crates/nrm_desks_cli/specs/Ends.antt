@@ -1,10 +1,12 @@
 -- How the program of many desks ends: what each status says of the words, the file, the frames and what was written.
-use Rattle.std.specs.Prelude.{ℕ, ℤ, ◌≡◌, ◌⊎◌, List, Option, Some, None, Ok, Err}
+use Rattle.std.specs.Prelude.{ℕ, ℤ, ◌≡◌, ◌⊎◌, List, Option, Some, None, Ok, Err, ⊤}
+use Rattle.std.specs.Io.KnownBytes.{Appends}
+use Rattle.nrm_edge.specs.Pieces.{AppendsCut}
 use Rattle.nrm_model.specs.Network.{NetworkValue}
 use Rattle.nrm_plan.specs.Plans.{IsOpeningPlan, OpeningOverflows, PlanValue}
 use Rattle.nrm_control.specs.State.{opening}
 use Rattle.nrm_control.specs.Standing.{ControlValue, IsControl, Represents}
-use Rattle.nrm_frames.specs.Outgoing.{differs, no_row, output_text}
+use Rattle.nrm_frames.specs.Outgoing.{Output, differs, no_row, output_text}
 use Rattle.nrm_common_cli.specs.Outside.{FilesFailed, LeftStream, OnFile, Outside, SinkFailed, SourceFailed, Wrote, WroteCut, WroteNothing}
 use Rattle.nrm_common_cli.specs.Refusals.{Refusal, file_fault_line, network_under, refusal_line}
 use Rattle.nrm_common_cli.specs.Words.{overflow_line, told_pivots}
@@ -13,7 +15,7 @@ use Rattle.nrm_hub.specs.declared.again.AgainFault.{AgainFault}
 use Rattle.nrm_hub.specs.declared.again.AgainFault.TheVariants as fault
 use Rattle.nrm_hub.specs.declared.phase.Phase.TheVariants as phase
 use Rattle.nrm_desks_cli.specs.Jobs.{DesksJob, usage_line}
-use Rattle.nrm_desks_cli.specs.Served.{HasEnded, HasNoRow, IsNoFrame, IsTooLong, NothingIsLeft, Served, ServedCut}
+use Rattle.nrm_desks_cli.specs.Served.{HasEnded, HasNoRow, IsNoFrame, IsTooLong, NothingIsLeft, Served, ServedBy}
 use Rattle.nrm_desks_cli.specs.declared.status.DesksStatus.{DesksStatus}
 use Rattle.nrm_desks_cli.specs.declared.status.DesksStatus.TheVariants as status
 
@@ -39,15 +41,15 @@ abbrev pub streams_at : Outside → Streams
 streams_at at = record { coming = at.coming; held = at.held; source_faults = at.source_faults; sink_faults = at.sink_faults }
 
 -- frames were served from the opening, and P holds of how
-pub record Ran (asked : Option DesksJob) (before after : Outside)
-    (P : (start : ControlValue) → Served start (streams_at before) (streams_at after) → Type 0) : Type 0 where
+pub record RanBy (Writes : Option (List ℕ) → Option (List ℕ) → List ℕ → Type 0) (asked : Option DesksJob) (before after : Outside)
+    (P : (start : ControlValue) → ServedBy Writes start (streams_at before) (streams_at after) → Type 0) : Type 0 where
   pub begins : Begins asked before
-  pub served : Served begins.control (streams_at before) (streams_at after)
+  pub served : ServedBy Writes begins.control (streams_at before) (streams_at after)
   pub so : P begins.control served
 
-pub record RanCut (asked : Option DesksJob) (before after : Outside) : Type 0 where
-  pub begins : Begins asked before
-  pub served : ServedCut begins.control (streams_at before) (streams_at after)
+abbrev pub Ran : (asked : Option DesksJob) (before after : Outside)
+    → ((start : ControlValue) → Served start (streams_at before) (streams_at after) → Type 0) → Type 0
+Ran asked before after P = RanBy Appends asked before after P
 
 -- a line, the status that goes with it, and why it is told
 pub data Tells (asked : Option DesksJob) (before after : Outside) : DesksStatus → List ℕ → Type 0 where
@@ -59,18 +61,11 @@ pub data Tells (asked : Option DesksJob) (before after : Outside) : DesksStatus 
   overflow : (job : DesksJob) (net : NetworkValue) (n : ℕ) (number : ℤ) → asked ≡ Some job → Opens job before net
       → OpeningOverflows net job.mode n number → Tells asked before after status.Overflow (overflow_line (told_pivots n) number)
 
--- a text was written whole, or cut, and the stream was not touched
-pub record Told (asked : Option DesksJob) (before after : Outside) (s : DesksStatus) : Type 0 where
+-- a text was written, whole or cut, and the stream was not touched
+pub record Told (Writes : Outside → Outside → List ℕ → Type 0) (asked : Option DesksJob) (before after : Outside) (s : DesksStatus) : Type 0 where
   pub text : List ℕ
   pub tells : Tells asked before after s text
-  pub wrote : Wrote before after text
-  pub left : LeftStream before after
-
-pub record ToldCut (asked : Option DesksJob) (before after : Outside) : Type 0 where
-  pub status : DesksStatus
-  pub text : List ℕ
-  pub tells : Tells asked before after status text
-  pub wrote : WroteCut before after text
+  pub wrote : Writes before after text
   pub left : LeftStream before after
 
 -- memory ran out before the stream was touched, and nothing was written
@@ -80,35 +75,29 @@ pub record RanOut (asked : Option DesksJob) (before after : Outside) : Type 0 wh
   pub wrote : WroteNothing before after
   pub left : LeftStream before after
 
--- rows can't be given again: this was found, and then the line that says so is written, whole or cut
-pub record Stops (asked : Option DesksJob) (before after : Outside) (Writes : Outside → Outside → List ℕ → Type 0) (text : ℕ → List ℕ)
-    (why : ℕ → AgainFault) : Type 0 where
+-- rows can't be given again: this was found, and then the frame that says so is written, whole or cut
+pub record Stops (Writes : Outside → Outside → List ℕ → Type 0) (asked : Option DesksJob) (before after : Outside) (why : ℕ → AgainFault)
+    (frame : ℕ → Output) : Type 0 where
   pub found : Outside
   pub row : ℕ
   pub ran : Ran asked before found (λ start served. HasNoRow served (why row))
-  pub wrote : Writes found after (text row)
+  pub wrote : Writes found after (output_text (frame row))
   pub left : LeftStream found after
-
-abbrev pub StopsAtNoRow : Option DesksJob → Outside → Outside → (Outside → Outside → List ℕ → Type 0) → Type 0
-StopsAtNoRow asked before after Writes = Stops asked before after Writes (λ row. output_text (no_row row)) fault.NoRow
-
-abbrev pub StopsAtOther : Option DesksJob → Outside → Outside → (Outside → Outside → List ℕ → Type 0) → Type 0
-StopsAtOther asked before after Writes = Stops asked before after Writes (λ row. output_text (differs row)) fault.Differs
 
 -- what each status says
 abbrev pub Ends : Option DesksJob → Outside → Outside → DesksStatus → Type 0
 Ends asked before after status.Done = Ran asked before after (λ start served. HasEnded served)
-Ends asked before after status.Usage = Told asked before after status.Usage
-Ends asked before after status.Refused = Told asked before after status.Refused
+Ends asked before after status.Usage = Told Wrote asked before after status.Usage
+Ends asked before after status.Refused = Told Wrote asked before after status.Refused
 Ends asked before after status.ReadFault = SourceFailed before after × Ran asked before after (λ start served. NothingIsLeft served)
 Ends asked before after status.WriteFault =
-    SinkFailed before after × (RanCut asked before after ⊎ (ToldCut asked before after
-    ⊎ (StopsAtNoRow asked before after WroteCut ⊎ StopsAtOther asked before after WroteCut)))
+    SinkFailed before after × (RanBy AppendsCut asked before after (λ start served. ⊤) ⊎ (((s : DesksStatus) × Told WroteCut asked before after s)
+    ⊎ (Stops WroteCut asked before after fault.NoRow no_row ⊎ Stops WroteCut asked before after fault.Differs differs)))
 Ends asked before after status.NoMemory =
     RanOut asked before after ⊎ Ran asked before after (λ start served. served.world.hub.phase ≡ phase.Replaying)
-Ends asked before after status.Overflow = Told asked before after status.Overflow
+Ends asked before after status.Overflow = Told Wrote asked before after status.Overflow
 Ends asked before after status.TooLong = Ran asked before after (λ start served. IsTooLong served)
-Ends asked before after status.FileFault = Told asked before after status.FileFault
+Ends asked before after status.FileFault = Told Wrote asked before after status.FileFault
 Ends asked before after status.NoFrame = Ran asked before after (λ start served. IsNoFrame served)
-Ends asked before after status.NoRow = StopsAtNoRow asked before after Wrote
-Ends asked before after status.Differs = StopsAtOther asked before after Wrote
+Ends asked before after status.NoRow = Stops Wrote asked before after fault.NoRow no_row
+Ends asked before after status.Differs = Stops Wrote asked before after fault.Differs differs

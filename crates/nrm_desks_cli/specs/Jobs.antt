@@ -10,10 +10,8 @@ pub record DesksJob : Type 0 where
 
 -- `MODE FILE`; all other words ask for nothing
 abbrev pub desks_job_of : List (List ℕ) → Option DesksJob
-desks_job_of [] = None
-desks_job_of (first ∷ []) = None
 desks_job_of (first ∷ file ∷ []) = option_map (λ m. record { mode = m; file = file }) (mode_of first)
-desks_job_of (first ∷ file ∷ further ∷ more) = None
+desks_job_of other = None
 
 -- how to call the program
 abbrev pub usage_line : List ℕ

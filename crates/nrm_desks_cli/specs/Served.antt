@@ -1,5 +1,5 @@
 -- How frames were served.
-use Rattle.std.specs.Prelude.{ℕ, ◌≡◌, ◌≢◌, ◌≤◌, ◌⊎◌, true, List, [], ◌∷◌, ◌++◌, flat_map, length, None}
+use Rattle.std.specs.Prelude.{ℕ, Option, ◌≡◌, ◌≢◌, ◌≤◌, ◌⊎◌, true, List, [], ◌∷◌, ◌++◌, flat_map, length, None}
 use Rattle.std.specs.Io.KnownBytes.{Appends, Consumes, IsAtEnd}
 use Rattle.nrm_edge.specs.Pieces.{AppendsCut}
 use Rattle.nrm_control.specs.Standing.{ControlValue}
@@ -21,36 +21,30 @@ use Rattle.nrm_desks_cli.specs.declared.serving.TheConstants.{MOST_BYTES}
 abbrev pub IsOpen : HubValue → Type 0
 IsOpen hub = (hub.phase ≡ phase.Replaying) ⊎ (takes_frames hub.phase ≡ true)
 
--- A frame that may not come: rows behind those that were all, another one before them, a client at a place that isn't free, and the word
--- that all is kept where it isn't awaited.
+-- A frame that may not come: rows behind all rows, another one before them, a client at a taken place, and `kept` where it isn't awaited.
 abbrev pub MayNotCome : HubValue → Header → Type 0
 MayNotCome hub (header.Again size) = hub.phase ≢ phase.Replaying
 MayNotCome hub (header.Open place name rights) = (hub.phase ≡ phase.Replaying) ⊎ (client_at hub place ≢ None)
-MayNotCome hub (header.Came place size) = hub.phase ≡ phase.Replaying
-MayNotCome hub (header.Gone place) = hub.phase ≡ phase.Replaying
 MayNotCome hub header.Kept = hub.phase ≢ phase.Asked
 MayNotCome hub header.End = ⊥
+MayNotCome hub other = hub.phase ≡ phase.Replaying
 
--- These bytes were taken, and the frames that they begin with came; the world went on to this one; the frames that it wrote are just what
--- was written.
-pub record Served (start : ControlValue) (before after : Streams) : Type 0 where
+-- These bytes were taken, and the frames that they begin with came; the world went on to this one; and the frames that it wrote were written.
+pub record ServedBy (Writes : Option (List ℕ) → Option (List ℕ) → List ℕ → Type 0) (start : ControlValue) (before after : Streams) : Type 0 where
   pub world : World
   pub comes : Comes (beginning start) world
   pub taken : List ℕ
   pub rest : List ℕ
   pub frames : AreFrames taken world.inputs rest
   pub consumed : Consumes before.coming after.coming taken
-  pub written : Appends before.held after.held (flat_map output_text world.outputs)
+  pub written : Writes before.held after.held (flat_map output_text world.outputs)
 
--- The same, but a put failed, or sending on what was put: a front of them was written, or all of them.
-pub record ServedCut (start : ControlValue) (before after : Streams) : Type 0 where
-  pub world : World
-  pub comes : Comes (beginning start) world
-  pub taken : List ℕ
-  pub rest : List ℕ
-  pub frames : AreFrames taken world.inputs rest
-  pub consumed : Consumes before.coming after.coming taken
-  pub written : AppendsCut before.held after.held (flat_map output_text world.outputs)
+-- these frames are just what was written; or a put failed, or sending on what was put, and a front of them was written, or all of them
+abbrev pub Served : ControlValue → Streams → Streams → Type 0
+Served start before after = ServedBy Appends start before after
+
+abbrev pub ServedCut : ControlValue → Streams → Streams → Type 0
+ServedCut start before after = ServedBy AppendsCut start before after
 
 -- more rows of the journal may be given again; or the word that all is kept is awaited, or nobody waits for anything
 abbrev pub IsDone : HubValue → Type 0

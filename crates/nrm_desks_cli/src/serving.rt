@@ -11,7 +11,7 @@ ghost use Rattle.nrm_desks_cli.specs.Inner.Serving.{TakesOr, at_sink, end_of};
 ghost use Rattle.nrm_desks_cli.specs.Served.{IsDone, IsOpen};
 ghost use Rattle.nrm_desks_cli.specs.declared.serving.ServeEnd.TheVariants as end;
 
-use crate::handling::{Handled, handle, take_round};
+use crate::handling::{Handled, handle, answer_round};
 use crate::incoming::Incoming;
 use nrm_edge::{Failed, Sink, Source};
 use nrm_frames::{Cut, cut_frame};
@@ -108,7 +108,7 @@ fn send_due<K: Sink>(alloc: Global, hub: &mut Hub, sink: &mut K) -> Result<(), F
     ensures sent { OnOk result (K.unsent sink.new ≡ []) }
     ensures cause { HasCause (K.faults sink.old) (K.faults sink.new) result }
 {
-    take_round(alloc, hub, sink)?;
+    answer_round(alloc, hub, sink)?;
     sink.flush()
 }
 

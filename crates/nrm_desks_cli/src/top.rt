@@ -123,10 +123,10 @@ fn run_job<F: Files, S: Source, K: Sink>(
 /// that go out are just what was written, or a front of it where the output failed; and where the input ends each whole frame was carried
 /// out, and nobody waits for anything, or the word that all is kept is awaited. `served`: whatever happens in whatever order, all that was
 /// carried out is one run of the session; the rows that were given out are just those of what was carried out, with their replies; each
-/// client is sent the replies to its own lines, none before its row is kept, and all of them where no word is awaited; of each desk each
-/// number is carried out at most once, and a line that comes again gets the reply that it had. `rights`: a line beyond a client's rights
-/// changes nothing and is told so. `rows`: rows that are given again lead to the state that
-/// they were given out in. `frames`: which frames a stream has doesn't depend on how it is cut. `asks`: a request for as large a party as
+/// client is sent the replies to its own lines, none before its row is kept, and all of them once these were told and until the next line is
+/// answered or somebody is to be closed; of each desk each number is carried out at most once, and a line that comes again gets the reply
+/// that it had. `rights`: a line beyond a client's rights changes nothing and is told so. `rows`: rows that are given again lead to the
+/// state that they were given out in. `frames`: which frames a stream has doesn't depend on how it is cut. `asks`: a request for as large a party as
 /// `ask` tells would be sold, and for no larger. `seats`: no leg has more seats sold than are authorised. `hindsight`: at each line of
 /// hindsight no selection of the requests so far earns more.
 /// `sent`: nothing is held back at the end.

@@ -13,7 +13,7 @@ use Rattle.nrm_hub.specs.Inner.Answered.{Hears as Joined, IsAnswered, IsJoinFaul
 use Rattle.nrm_hub.specs.Inner.Taking.{Begins, Excuses, GoesWithout, IsLine, IsTook, Takes, TakesIts, answered_as, joined, line, nothing, settled, taken, too_long}
 use Rattle.nrm_hub.specs.Seats.{IsBelow}
 use Rattle.nrm_hub.specs.Asked.{asked_in}
-use Rattle.nrm_hub.specs.Lines.{at_line, denied_line, is_beyond, memory_line}
+use Rattle.nrm_hub.specs.Lines.{at_line, denied_line, is_beyond}
 use Rattle.nrm_hub.specs.Lines.{Answers, How, asks, greets_late, is_carried, is_denied, lacks, looks, may_not_ask, otherwise, repeats, runs_out}
 use Rattle.nrm_hub.specs.Register.{DeskValue, Joins, RegisterValue, added, desk_at, desk_named, new_desk, replaced, there}
 use Rattle.nrm_hub.specs.Waiting.{HasNoLine}
@@ -27,6 +27,7 @@ use Rattle.nrm_hub.specs.declared.register.JoinFault.TheVariants as join
 use Rattle.nrm_hub.specs.declared.client.Took.{Took}
 use Rattle.nrm_hub.specs.declared.client.Took.TheVariants as took
 use Rattle.nrm_hub.specs.declared.line.Taken.{Taken}
+use Rattle.nrm_session.specs.Replies.{memory, text_of}
 use Rattle.nrm_hub.specs.declared.line.Taken.TheVariants as become
 
 -- the number of a desk that was found is below theirs
@@ -177,7 +178,7 @@ without spare r r' c c' end name fault first by_name same cause goes =
     subst (λ (mid : RegisterValue). TakesIts spare r mid c c' end) (sym same) (by fault cause goes)
   where
     by : (fault : JoinFault) → IsJoinFault name spare r fault → GoesWithout c c' end fault → TakesIts spare r r c c' end
-    by join.NoMemory cause goes = record { how = otherwise; text = memory_line; takes = lacks_memory c' first (name, by_name, cause) goes }
+    by join.NoMemory cause goes = record { how = otherwise; text = (text_of memory); takes = lacks_memory c' first (name, by_name, cause) goes }
     by join.TooMany cause goes = record {
       how = otherwise;
       text = [];

@@ -5,9 +5,10 @@ use Rattle.nrm_frames.specs.declared.why.Why.{Why}
 use Rattle.nrm_frames.specs.declared.why.Why.TheVariants as why
 use Rattle.nrm_hub.specs.Clients.{ClientValue, Hears, after_line, closed_for, cut, joined_as, whole}
 use Rattle.nrm_hub.specs.Desks.{IsFrontOf}
-use Rattle.nrm_hub.specs.Lines.{How, at_line, denied_line, memory_line}
+use Rattle.nrm_hub.specs.Lines.{How, at_line, denied_line}
 use Rattle.nrm_hub.specs.Register.{RegisterValue}
 use Rattle.nrm_hub.specs.Taking.{TakesLine, answers, greets, lacks_memory, may_not_greet, refuses, too_many}
+use Rattle.nrm_session.specs.Replies.{memory, text_of}
 use Rattle.nrm_hub.proofs.ClientAnswers.{front-self}
 
 -- A text was to join what waits for a client, of which these bytes came: it is the same client, a front of the text joined, and the whole
@@ -52,7 +53,7 @@ takes-tells r c line rest _ _ _ _ (greets name number r' d n c' none is may join
     hears-tells (joined_as (after_line c line rest) d n) (at_line n) c' hears
 takes-tells r c line rest _ _ _ _ (may_not_greet name number c' none is may hears) =
     hears-tells (after_line c line rest) denied_line c' hears
-takes-tells r c line rest _ _ _ _ (lacks_memory c' none new hears) = hears-tells (after_line c line rest) memory_line c' hears
+takes-tells r c line rest _ _ _ _ (lacks_memory c' none new hears) = hears-tells (after_line c line rest) (text_of memory) c' hears
 takes-tells r c line rest _ _ _ _ (too_many none new many full) = refused (after_line c line rest) why.Desks
 takes-tells r c line rest _ _ _ _ (answers d r' c' how text is_desk answered hears) =
     hears-tells (record (after_line c line rest) { number = c.number + 1 }) text c' hears

@@ -19,5 +19,6 @@ desks-served start w is comes =
       settled = λ e. (register.settled e, clients.settled e);
       once = register.once;
       replies = register.replies;
+      known = register.fits.fit.knows;
       owners = register.owners;
     }

@@ -2,29 +2,23 @@
 use Rattle.std.proofs.Common.{ℕ, zero, suc, ◌≡◌, ◌≢◌, ◌∙◌, ◌+◌, ◌<◌, ◌≤◌, ◌⊎◌, inl, inr, Bool, true, false, cond, ◌||◌, List, [], ◌∷◌, ◌++◌, length, drop, map, get_or, Option, Some, None, MatchOption}
 use Rattle.std.proofs.Common.{refl, sym, ap, subst, arith, bytes_eq, length-append, length-drop}
 use Rattle.std.specs.Prelude.{All, nat_lt, slice_set, if◌then◌else◌}
-use Rattle.std.specs.Bool.{MatchBool}
 use Rattle.std.specs.List.{list_any, position_from}
 use Rattle.std.proofs.lemmas.Bool.{false≢true, ltb-true}
 use Rattle.std.proofs.lemmas.List.{length-set, map-append, set-get_or}
-use Rattle.std.proofs.lemmas.List.Elements.{All-drop, All-nil, All-push, All-set, All-weaker}
+use Rattle.std.proofs.lemmas.List.Elements.{All-nil, All-push, All-set, All-weaker}
 use Rattle.std.proofs.Math.Seq.{map-set_same}
-use Rattle.nrm_fraction.specs.Fraction.{Fraction}
-use Rattle.nrm_model.specs.Network.{NetworkValue, leg_named, product_named}
+use Rattle.nrm_model.specs.Network.{NetworkValue, leg_named}
 use Rattle.nrm_model.proofs.NameLemmas.{number-same}
-use Rattle.nrm_book.specs.Bookings.{booking_numbered}
-use Rattle.nrm_plan.specs.Plans.{value_of}
-use Rattle.nrm_control.specs.State.{SeatState, answer_in}
+use Rattle.nrm_control.specs.State.{SeatState}
 use Rattle.nrm_control.specs.Standing.{ControlValue, IsControl}
-use Rattle.nrm_control.specs.declared.answer.Answer.{Answer}
-use Rattle.nrm_control.specs.declared.answer.Answer.TheVariants as answer
 use Rattle.nrm_control.proofs.States.{some-state}
 use Rattle.nrm_stream.specs.Commands.{IsCommand}
 use Rattle.nrm_stream.specs.declared.command.Command.{Command}
 use Rattle.nrm_stream.specs.declared.command.Command.TheVariants as command
 use Rattle.nrm_session.specs.Answering.{IsTellable, Steps, reply_in}
-use Rattle.nrm_session.specs.Replies.{Reply, bad, cancelled, hindsight_told, leg_told, memory, no_fare, no_leg, optimised, optimised_at, optimised_none}
-use Rattle.nrm_session.specs.Replies.{overflow, plan_told, reply_to, sold, unknown}
-use Rattle.nrm_session.specs.Step.{Gives, Reoptimises, Step, lacks_period, optimises, overflows, runs_out_of_memory}
+use Rattle.nrm_session.specs.Replies.{Reply, memory}
+use Rattle.nrm_session.specs.Replies.{unknown}
+use Rattle.nrm_session.specs.Step.{Step}
 use Rattle.nrm_session.specs.declared.reply.Reply.{Reply as Answered}
 use Rattle.nrm_session.specs.declared.reply.Reply.TheVariants as answered
 use Rattle.nrm_session.proofs.OtherLines.{other-lines}
@@ -35,40 +29,8 @@ use Rattle.nrm_hub.specs.Inner.Answered.{CarriesOut, ran_out}
 use Rattle.nrm_hub.specs.Rows.{row_text}
 use Rattle.nrm_hub.specs.declared.limits.TheConstants.{LAST_SEQUENCE, MOST_DESKS, MOST_HELD, MOST_ROWS}
 use Rattle.nrm_hub.specs.declared.row.Row.{Row}
-
--- a reply of one line that is the same however things stand later
-abbrev is_short : Reply → Bool
-is_short unknown = true
-is_short (sold number) = true
-is_short (no_leg name) = true
-is_short no_fare = true
-is_short (cancelled number amount) = true
-is_short (optimised value) = true
-is_short optimised_none = true
-is_short overflow = true
-is_short bad = false
-is_short memory = false
-is_short (hindsight_told value revenue withheld) = false
-is_short (leg_told text) = false
-is_short (plan_told text) = false
-
-abbrev IsShort : Reply → Type 0
-IsShort reply = is_short reply ≡ true
-
-short-same : (control : ControlValue) (a : Answered) → is_short (reply_in control a) ≡ is_of_row a
-short-same control answered.Bad = refl
-short-same control answered.Unknown = refl
-short-same control (answered.Sold number) = refl
-short-same control (answered.NoLeg i) = refl
-short-same control answered.NoFare = refl
-short-same control (answered.Cancelled number refund) = refl
-short-same control (answered.Optimised num den) = refl
-short-same control answered.OptimisedNone = refl
-short-same control answered.Overflow = refl
-short-same control answered.Memory = refl
-short-same control (answered.Hindsight num den revenue withheld) = refl
-short-same control (answered.Leg i) = refl
-short-same control answered.Plan = refl
+use Rattle.nrm_hub.proofs.RegisterLists.{all-trimmed}
+use Rattle.nrm_hub.proofs.RegisterReplies.{is-of-row}
 
 -- any reply but that one says something else
 pub not-memory : (control : ControlValue) (a : Answered) → a ≢ answered.Memory → reply_in control a ≢ memory
@@ -86,50 +48,13 @@ not-memory control (answered.Hindsight num den revenue withheld) apart = λ e. c
 not-memory control (answered.Leg i) apart = λ e. cc
 not-memory control answered.Plan apart = λ e. cc
 
-short-answer : (net : NetworkValue) (a : Answer) → IsShort (reply_to net a)
-short-answer net (answer.Sold number) = refl
-short-answer net (answer.Leg i) = refl
-short-answer net answer.Fare = refl
-
-short-value : (value : Option Fraction) → IsShort (optimised_at value)
-short-value None = refl
-short-value (Some value) = refl
-
--- a reply is one of two, by whether something is there
-short-either : {X : Type 0} (o : Option X) (reply none : Reply) (some : X → Reply) (s' kept : SeatState) (changed : X → SeatState)
-    → IsShort none → ((x : X) → IsShort (some x)) → MatchOption o ((reply ≡ none) × (s' ≡ kept)) (λ x. (reply ≡ some x) × (s' ≡ changed x)) → IsShort reply
-short-either None reply none some s' kept changed at_none at_some given = subst IsShort (sym given.0) at_none
-short-either (Some x) reply none some s' kept changed at_none at_some given = subst IsShort (sym given.0) (at_some x)
-
-short-again : (net : NetworkValue) (s : SeatState) (k : ℕ) (reply : Reply) (s' : SeatState) → reply ≢ memory → Reoptimises net s k reply s' → IsShort reply
-short-again net s k reply s' apart (optimises plan for) = short-value (value_of net plan)
-short-again net s k reply s' apart (overflows n number large) = refl
-short-again net s k reply s' apart (runs_out_of_memory solves) = absurd (apart refl)
-
-short-period : (net : NetworkValue) (s s' : SeatState) (k : ℕ) (reply : Reply) (beyond : Bool) → reply ≢ memory
-    → MatchBool beyond (Gives unknown reply s s') (Reoptimises net s k reply s') → IsShort reply
-short-period net s s' k reply true apart given = subst IsShort (sym given.0) refl
-short-period net s s' k reply false apart given = short-again net s k reply s' apart given
-
--- so is each reply to a line that may change something, unless memory ran out
-short-change : (net : NetworkValue) (s s' : SeatState) (c : Command) (reply : Reply) → is_change c ≡ true → reply ≢ memory → Step net s c reply s' → IsShort reply
-short-change net s s' (command.Book name party) reply changes apart step =
-    short-either (product_named net name) reply unknown _ s' s _ refl (λ j. short-answer net (answer_in net s j party)) step
-short-change net s s' (command.Cancel number) reply changes apart step =
-    short-either (booking_numbered s.bookings number) reply unknown _ s' s _ refl (λ b. refl) step
-short-change net s s' (command.Reoptimise k) reply changes apart step = short-period net s s' k reply (lacks_period net k) apart step
-short-change net s s' (command.Leg name) reply changes apart step = absurd (false≢true changes)
-short-change net s s' command.Hindsight reply changes apart step = absurd (false≢true changes)
-short-change net s s' command.Plan reply changes apart step = absurd (false≢true changes)
-short-change net s s' command.Bad reply changes apart step = absurd (false≢true changes)
-
 -- a reply that a row may have
 pub of-row : (old new : ControlValue) (c : Command) (a : Answered) → IsControl old → Steps old new c (reply_in new a) → is_change c ≡ true → a ≢ answered.Memory
     → is_of_row a ≡ true
 of-row old new c a kept steps changes apart =
     let (s, stands) = some-state old kept in
     let (s', step, stood) = steps.step s stands in
-    sym (short-same new a) ∙ short-change old.net s s' c (reply_in new a) changes (not-memory new a apart) step
+    is-of-row old.net s s' c new a changes step (not-memory new a apart)
 
 -- a line that changes nothing leaves the state
 same-either : {X : Type 0} (o : Option X) (reply none : Reply) (some : X → Reply) (s' kept : SeatState)
@@ -146,7 +71,7 @@ same-looking net s s' command.Hindsight reply looks step = step.1
 same-looking net s s' command.Plan reply looks step = step.1
 same-looking net s s' command.Bad reply looks step = step.1
 
-same-state : (net : NetworkValue) (s s' : SeatState) (c : Command) (reply : Reply) → (is_change c ≡ false) ⊎ (reply ≡ memory) → Step net s c reply s' → s' ≡ s
+pub same-state : (net : NetworkValue) (s s' : SeatState) (c : Command) (reply : Reply) → (is_change c ≡ false) ⊎ (reply ≡ memory) → Step net s c reply s' → s' ≡ s
 same-state net s s' c reply (inl looks) step = same-looking net s s' c reply looks step
 same-state net s s' c reply (inr is) step =
     let run_out : Step net s c memory s' = subst (λ (r : Reply). Step net s c r s') is step in
@@ -199,13 +124,6 @@ few-by false held is few = omega (arith, few, length-drop MOST_HELD held)
 
 few-trimmed : (held : List Row) → length held ≤ MOST_HELD + MOST_HELD → length (trimmed held) < MOST_HELD + MOST_HELD
 few-trimmed held few = few-by (nat_lt (length held) (MOST_HELD + MOST_HELD)) held refl few
-
-all-by : (P : Row → Type 0) (b : Bool) (held : List Row) → All P held → All P (if b then held else drop MOST_HELD held)
-all-by P true held all = all
-all-by P false held all = All-drop P MOST_HELD held all
-
-all-trimmed : (P : Row → Type 0) (held : List Row) → All P held → All P (trimmed held)
-all-trimmed P held all = all-by P (nat_lt (length held) (MOST_HELD + MOST_HELD)) held all
 
 -- a desk with one more row
 desk-with : (control : ControlValue) (desk : DeskValue) (row : Row) → IsDesk control desk → IsTold control row → row.sequence ≤ LAST_SEQUENCE

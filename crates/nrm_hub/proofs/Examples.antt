@@ -5,16 +5,16 @@ use Rattle.std.specs.Fmt.{digits}
 use Rattle.nrm_frames.specs.Headers.{no_rights}
 use Rattle.nrm_frames.specs.declared.why.Why.TheVariants as why
 use Rattle.nrm_stream.specs.declared.command.Command.TheVariants as command
-use Rattle.nrm_session.specs.Replies.{bad, leg_told, no_fare, no_leg, plan_told, sold, unknown}
+use Rattle.nrm_session.specs.Replies.{bad, leg_told, memory, no_fare, no_leg, plan_told, sold, text_of, unknown}
 use Rattle.nrm_session.specs.declared.reply.Reply.TheVariants as answered
 use Rattle.nrm_hub.specs.Again.{StopsAt, no_row, not_next, row_of, unended}
 use Rattle.nrm_hub.specs.Asked.{allows, asked_in, is_change, owner_of}
 use Rattle.nrm_hub.specs.Clients.{ClientValue, after_line, closed_for, joined_as, new_client, whole}
-use Rattle.nrm_hub.specs.Desks.{entry_in, seller_by, turn_in}
+use Rattle.nrm_hub.specs.Desks.{entry_in, held_after, next_after, rows_of, seller_by, turn_in}
 use Rattle.nrm_hub.specs.Hub.{alone}
-use Rattle.nrm_hub.specs.Lines.{at_line, available_line, bad_line, bound_words, carried, denied_line, is_same, memory_line, otherwise, passed, reason_used, row_under, told_text}
+use Rattle.nrm_hub.specs.Lines.{at_line, available_line, bound_words, carried, denied_line, is_same, otherwise, passed, reason_used, row_under, told_text}
 use Rattle.nrm_hub.specs.Register.{RegisterValue, desk_named, owners_after, there, trimmed}
-use Rattle.nrm_hub.specs.Rows.{row_text, rows_text}
+use Rattle.nrm_hub.specs.Rows.{Entry, row_text, rows_text}
 use Rattle.nrm_hub.specs.Taking.{TakesLine, may_greet, greets as greets_by}
 use Rattle.nrm_hub.specs.declared.again.AgainFault.TheVariants as fault
 use Rattle.nrm_hub.specs.declared.limits.TheConstants.{MOST_DESKS, MOST_HELD, MOST_LINE, MOST_LINES, MOST_ROWS, MOST_WAITING}
@@ -130,7 +130,7 @@ greeted : at_line 12 ≡ codes "at 12\n"
 unfolding digits
 greeted = refl
 
-hubs_own : denied_line ++ bad_line ++ memory_line ≡ codes "denied\nbad\nmemory\n"
+hubs_own : denied_line ++ (text_of bad) ++ (text_of memory) ≡ codes "denied\nbad\nmemory\n"
 hubs_own = refl
 
 bounds : (bound_words (no_leg (codes "AB")) ≡ codes "leg" ∷ codes "AB" ∷ []) × (bound_words no_fare ≡ codes "fare" ∷ [])
@@ -187,10 +187,10 @@ most_rows : MOST_ROWS ≡ 4294967296
 most_rows = refl
 
 -- 199 rows are held, and of 200 the last hundred
-still_held : length (trimmed (replicate 199 (record { sequence = 3; command = command.Cancel 1; reply = answered.Unknown }))) ≡ 199
+still_held : length {A = Row} (trimmed (replicate 199 (record { sequence = 3; command = command.Cancel 1; reply = answered.Unknown }))) ≡ 199
 still_held = refl
 
-dropped : length (trimmed (replicate 200 (record { sequence = 3; command = command.Cancel 1; reply = answered.Unknown }))) ≡ 100
+dropped : length {A = Row} (trimmed (replicate 200 (record { sequence = 3; command = command.Cancel 1; reply = answered.Unknown }))) ≡ 100
 dropped = refl
 
 -- ---- greetings
@@ -233,3 +233,22 @@ elsewhere : alone (Some (new_client 0 [] no_rights) ∷ Some (joined_as (new_cli
     ≡ Some (new_client 0 [] no_rights) ∷ Some (closed_for (joined_as (new_client 1 [] no_rights) 5 1) why.Elsewhere)
     ∷ Some (joined_as (new_client 2 [] no_rights) 5 1) ∷ []
 elsewhere = refl
+
+-- ---- what a desk knows: its own rows among those of another, in their order
+abbrev row_by : List ℕ → ℕ → Entry
+row_by name sequence = record { desk = name; sequence = sequence; command = command.Cancel 1; reply = unknown }
+
+abbrev rows_of_two : List Entry
+rows_of_two = row_by (codes "A") 3 ∷ row_by (codes "B") 9 ∷ row_by (codes "A") 5 ∷ []
+
+own_rows : rows_of (codes "A") rows_of_two ≡ row_by (codes "A") 3 ∷ row_by (codes "A") 5 ∷ []
+own_rows = refl
+
+next_of_its_own : next_after 1 (rows_of (codes "A") rows_of_two) ≡ 6
+next_of_its_own = refl
+
+no_row_yet : next_after 1 (rows_of (codes "C") rows_of_two) ≡ 1
+no_row_yet = refl
+
+both_held : held_after [] (rows_of (codes "A") rows_of_two) ≡ row_by (codes "A") 3 ∷ row_by (codes "A") 5 ∷ []
+both_held = refl

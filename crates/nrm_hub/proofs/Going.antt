@@ -11,7 +11,7 @@ use Rattle.nrm_frames.specs.declared.why.Why.TheVariants as why
 use Rattle.nrm_hub.specs.Asked.{asked_in}
 use Rattle.nrm_hub.specs.Clients.{ClientValue, after_telling, joined_as, new_client, with_piece}
 use Rattle.nrm_hub.specs.Goes.{Goes, GoesTo}
-use Rattle.nrm_hub.specs.Hub.{HubValue, alone, client_at, seated_after, takes_frames, takes_lines, with_client, with_closed, with_places}
+use Rattle.nrm_hub.specs.Hub.{HubValue, alone, client_at, seated_after, takes_frames, takes_lines, with_client, with_closed}
 use Rattle.nrm_hub.specs.Lines.{How}
 use Rattle.nrm_hub.specs.Register.{Joins, RegisterValue, desk_at}
 use Rattle.nrm_hub.specs.Rows.{Entry, rows_text}
@@ -99,10 +99,10 @@ goes-ready h replaying =
     (after_output (after_frame w (frame (header.Again 0) []) w.hub) (ready w.hub.register.rows) (record w.hub { phase = phase.Settled }))
     (frame (header.Again 0) [] ∷ []) (ready w.hub.register.rows ∷ []) (readied p) refl refl)
 
-pub goes-places : (h : HubValue) (count : ℕ) → takes_frames h.phase ≡ true → Goes h (with_places h (replicate count None)) [] []
+pub goes-places : (h : HubValue) (count : ℕ) → takes_frames h.phase ≡ true → Goes h (record h { clients = h.clients ++ replicate count None }) [] []
 goes-places h count open_still =
-    goes-at (λ h. takes_frames h.phase ≡ true) (λ h. with_places h (replicate count None)) [] (λ _. []) h open_still
-    (λ w p. went w (record w { hub = with_places w.hub (replicate count None) }) [] [] (places_made count p) (sym (append-nil w.inputs))
+    goes-at (λ h. takes_frames h.phase ≡ true) (λ h. record h { clients = h.clients ++ replicate count None }) [] (λ _. []) h open_still
+    (λ w p. went w (record w { hub = record w.hub { clients = w.hub.clients ++ replicate count None } }) [] [] (places_made count p) (sym (append-nil w.inputs))
     (sym (append-nil w.outputs)))
 
 pub goes-opened : (h : HubValue) (place : ℕ) (name : List ℕ) (rights : Rights) → takes_frames h.phase ≡ true → place < length h.clients

@@ -1,5 +1,5 @@
 -- What methods of the hub do, by what they do to the clients at their places.
-use Rattle.std.proofs.Common.{ℕ, ◌≡◌, ◌≢◌, ◌∙◌, ◌<◌, Bool, true, false, List, [], ◌∷◌, length, get_or, Option, Some, None, refl, sym, ap, subst}
+use Rattle.std.proofs.Common.{ℕ, ◌≡◌, ◌≢◌, ◌∙◌, ◌<◌, Bool, true, false, List, [], ◌∷◌, ◌++◌, length, get_or, Option, Some, None, refl, sym, ap, subst}
 use Rattle.std.specs.Prelude.{is_some, replicate, slice_set}
 use Rattle.std.proofs.lemmas.List.{get_or-set_same, set-get_or}
 use Rattle.nrm_frames.specs.Outgoing.{close, send}
@@ -9,7 +9,7 @@ use Rattle.nrm_frames.specs.declared.why.Why.TheVariants as why
 use Rattle.nrm_hub.specs.Spare.{IsSpare}
 use Rattle.nrm_hub.specs.Clients.{ClientValue, after_telling, closed_for, with_piece}
 use Rattle.nrm_hub.specs.Goes.{Goes}
-use Rattle.nrm_hub.specs.Hub.{HubValue, after_closing, alone, client_at, seated_after, takes_frames, takes_lines, with_client, with_closed, with_places}
+use Rattle.nrm_hub.specs.Hub.{HubValue, after_closing, alone, client_at, seated_after, takes_frames, takes_lines, with_client, with_closed}
 use Rattle.nrm_hub.specs.Inner.Seats.{CameAt, ClosesAt, HasPlaces, IsToldAt, TakesAt, TakesBy, came, closes, nobody, passed_by, stays, takes}
 use Rattle.nrm_hub.specs.Inner.Taking.{IsTook, TakesNext, joined, refused}
 use Rattle.nrm_hub.specs.Register.{RegisterValue}
@@ -187,5 +187,5 @@ same-clients h place x y within read is =
 pub goes-made : (h : HubValue) (clients : List (Option ClientValue)) → takes_frames h.phase ≡ true → HasPlaces h.clients clients
     → Goes h (record h { clients = clients }) [] []
 goes-made h clients open_still (count, is) =
-    goes-same h h (with_places h (replicate count None)) (record h { clients = clients }) [] [] refl
+    goes-same h h (record h { clients = h.clients ++ replicate count None }) (record h { clients = clients }) [] [] refl
     (ap (λ (cs : List (Option ClientValue)). let h' : HubValue = record h { clients = cs } in h') (sym is)) (goes-places h count open_still)

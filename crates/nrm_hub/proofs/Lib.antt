@@ -8,6 +8,7 @@ pub mod OfFields  -- the value of a hub, and of a register, out of its fields
 pub mod Entered  -- what holds of a register once something is entered
 pub mod ClientLines  -- the lines of one client
 pub mod AgainRows  -- rows that are given again
+pub mod KnownRows  -- what a desk knows is what its own rows leave
 pub mod RegisterFits  -- what a register has of the rows that were carried out, and how it goes on
 pub mod RegisterLines  -- what a register has after a line of a client
 pub mod RegisterLists  -- lists of a register: a place that changes, a desk by its name, rows one behind another

@@ -2,6 +2,7 @@
 use Rattle.std.proofs.Common.{ℕ, ◌≡◌, ◌≢◌, ◌∙◌, bytes_eq, false, inl, inr, Option, ◌+◌, ◌<◌, ◌≤◌, true, List, [], ◌∷◌, ◌++◌, All, AllPairs, flat_map, length, get_or, set, map}
 use Rattle.std.proofs.Common.{Some, None, refl, sym, ap, subst, arith, append_assoc, append-nil, length-append, length-set}
 use Rattle.std.specs.List.{position_from}
+use Rattle.std.proofs.lemmas.Bool.{cases_lt}
 use Rattle.std.proofs.lemmas.Grind.{flat_map-append}
 use Rattle.std.proofs.lemmas.List.{get_or-set_other, get_or-set_same, get_or_append_left, get_or_push, length_push, map-append}
 use Rattle.std.proofs.lemmas.List.Elements.{All-get_or, All-nil, All-push, All-weaker}
@@ -18,7 +19,7 @@ use Rattle.nrm_session.specs.declared.reply.Reply.{Reply as Answered}
 use Rattle.nrm_session.specs.declared.reply.Reply.TheVariants as answered
 use Rattle.nrm_session.proofs.Answered.{run-joined}
 use Rattle.nrm_hub.specs.Asked.{is_change}
-use Rattle.nrm_hub.specs.Desks.{IsOneRun, NumbersRise, Turn, seller_of, turn_again}
+use Rattle.nrm_hub.specs.Desks.{IsOneRun, KnowsItsRows, NumbersRise, Turn, seller_of, turn_again}
 use Rattle.nrm_hub.specs.Register.{Carries, DeskValue, Joins, Passes, RegisterValue, added, desk_at, is_of_row, name_at, new_desk, new_register}
 use Rattle.nrm_hub.specs.Register.{owners_after, replaced, there, with_row}
 use Rattle.nrm_hub.specs.Clients.{ClientValue}
@@ -27,6 +28,7 @@ use Rattle.nrm_hub.specs.Spare.{IsSpare}
 use Rattle.nrm_model.proofs.NameLemmas.{bytes_eq-apart}
 use Rattle.nrm_hub.specs.World.{GivesAgain, next as row_again, none as nothing_again}
 use Rattle.nrm_hub.specs.declared.row.Row.{Row}
+use Rattle.nrm_hub.proofs.KnownRows.{knows-none, knows-on, knows-other, knows-own}
 use Rattle.nrm_hub.proofs.RegisterLists.{EachIsFound, IsAmong, all-trimmed, among-last, among-longer, at-push, at-set, found-pushed, map-same, named}
 use Rattle.nrm_hub.proofs.RegisterLists.{named-at, named-elsewhere, named-in-place, named-longer, named-set, nat_eq-cases, none-found, rel-set}
 use Rattle.nrm_hub.proofs.RegisterReplies.{is-of-row, owners-named, reply-same}
@@ -91,6 +93,7 @@ pub record DesksFit (control : ControlValue) (desks : List DeskValue) (owners : 
   pub some : (d : ℕ) → 0 < (get_or desks d (new_desk [])).next
   pub owned : All (IsOfDesk desks) rows
   pub held : (d : ℕ) → HoldsRows control rows (get_or desks d (new_desk []))
+  pub knows : (d : ℕ) → d < length desks → KnowsItsRows control (get_or desks d (new_desk [])) rows
   pub known : All (λ owner. owner < length desks) owners
   pub sold : All (λ owner. 1 < (get_or desks owner (new_desk [])).next) owners
   pub sellers : map (name_of desks) owners ≡ flat_map seller_of rows
@@ -116,11 +119,25 @@ fits-new start = record {
     some = λ d. omega arith;
     owned = All-nil (IsOfDesk []);
     held = λ d. All-nil (IsOfRows start [] []);
+    knows = λ d short. absurd (omega arith);
     known = All-nil (λ (owner : ℕ). owner < 0);
     sold = All-nil (λ (owner : ℕ). 1 < 1);
     sellers = refl;
   };
 }
+
+-- ---- what desks know
+-- no row is one of a desk that isn't there
+others-by : (desks : List DeskValue) (name : List ℕ) (rows : List Entry) → All (IsOfDesk desks) rows → position_from (named name) 0 desks ≡ None
+    → All (λ entry. bytes_eq entry.desk name ≡ false) rows
+others-by desks name rows owned new =
+    All-weaker (IsOfDesk desks) (λ (entry : Entry). bytes_eq entry.desk name ≡ false)
+    (λ entry is. bytes_eq-apart entry.desk name
+    (λ same. none-found (sym new ∙ ap (λ (n : List ℕ). position_from (named n) 0 desks) (sym same) ∙ is.found))) rows owned
+
+lines-of : (control : ControlValue) (rows : List Entry) (desk : DeskValue) → HoldsRows control rows desk → All (λ row. is_of_row row.reply ≡ true) desk.held
+lines-of control rows desk holds =
+    All-weaker (IsOfRows control desk.name rows) (λ (row : Row). is_of_row row.reply ≡ true) (λ row is. is.line) desk.held holds
 
 -- ---- a desk joins
 module _ (control : ControlValue) (desks : List DeskValue) (owners : List ℕ) (rows : List Entry) (name : List ℕ)
@@ -143,12 +160,23 @@ module _ (control : ControlValue) (desks : List DeskValue) (owners : List ℕ) (
         (sym (same-at is.desk (named-at entry.desk desks is.desk is.found).0)) is.below;
   }
 
+  knows-joined : (d : ℕ) → d < length more → KnowsItsRows control (get_or more d (new_desk [])) rows
+  knows-joined d short =
+      elim (cases_lt d (length desks)) [
+        | inl less ↦ subst (λ (desk : DeskValue). KnowsItsRows control desk rows) (sym (same-at d less)) (f.knows d less)
+        | inr from ↦
+            let last : d ≡ length desks = omega (arith, longer, short, from) in
+            subst (λ (desk : DeskValue). KnowsItsRows control desk rows) (sym (get_or_push desks (new_desk name) (new_desk []) d (sym last)))
+            (knows-none control name rows (others-by desks name rows f.owned new))
+      ]
+
   desks-joined : DesksFit control more owners rows
   desks-joined = record {
     each = found-pushed desks name f.each new;
     some = at-push (λ (desk : DeskValue). 0 < desk.next) (new_desk []) desks (new_desk name) (omega arith) f.some;
     owned = All-weaker (IsOfDesk desks) (IsOfDesk more) owned-more rows f.owned;
     held = at-push (HoldsRows control rows) (new_desk []) desks (new_desk name) (All-nil (IsOfRows control name rows)) f.held;
+    knows = knows-joined;
     known = All-weaker (λ (owner : ℕ). owner < length desks) (λ (owner : ℕ). owner < length more) (λ owner less. omega (arith, longer, less))
         owners f.known;
     sold = λ k e short. subst (λ (desk : DeskValue). 1 < desk.next) (sym (same-at (get_or owners k e) (f.known k e short))) (f.sold k e short);
@@ -213,12 +241,25 @@ module _ (control : ControlValue) (desks : List DeskValue) (owners : List ℕ) (
       let next : (get_or desks (get_or owners k e) (new_desk [])).next ≡ 1 = ap (λ (i : ℕ). (get_or desks i (new_desk [])).next) same ∙ unused in
       omega (arith, f.sold k e short, next)
 
+  knows-renamed : (k : ℕ) → k < length changed → KnowsItsRows control (get_or changed k (new_desk [])) rows
+  knows-renamed k short =
+      elim (nat_eq-cases k d) [
+        | inl same ↦
+            let there : get_or changed k (new_desk []) ≡ new_desk name =
+            ap (λ (i : ℕ). get_or changed i (new_desk [])) same ∙ get_or-set_same desks d (new_desk name) (new_desk []) within in
+            subst (λ (desk : DeskValue). KnowsItsRows control desk rows) (sym there)
+            (knows-none control name rows (others-by desks name rows f.owned new))
+        | inr apart ↦
+            subst (λ (desk : DeskValue). KnowsItsRows control desk rows) (sym (other-at k apart)) (f.knows k (omega (arith, short, as-long)))
+      ]
+
   desks-renamed : DesksFit control changed owners rows
   desks-renamed = record {
     each = each-changed;
     some = at-set (λ (desk : DeskValue). 0 < desk.next) (new_desk []) desks d (new_desk name) (omega arith) f.some;
     owned = All-weaker (IsOfDesk desks) (IsOfDesk changed) owned-still rows f.owned;
     held = at-set (HoldsRows control rows) (new_desk []) desks d (new_desk name) (All-nil (IsOfRows control name rows)) f.held;
+    knows = knows-renamed;
     known = λ k e short. omega (arith, f.known k e short, as-long);
     sold = λ k e short.
         subst (λ (desk : DeskValue). 1 < desk.next) (sym (other-at (get_or owners k e) (not-owner k e short))) (f.sold k e short);
@@ -388,6 +429,35 @@ module _ (old new : ControlValue) (desks : List DeskValue) (owners : List ℕ) (
       (All-push (IsOfRows new desk.name (rows ++ entry ∷ [])) desk.held row (held-all desk (f.held d)) held-last))
       (λ k. held-all (get_or desks k (new_desk [])) (f.held k))
 
+  -- another desk has another name
+  apart-names : (k : ℕ) → k < length desks → k ≢ d → bytes_eq desk.name (name_of desks k) ≡ false
+  apart-names k short apart =
+      bytes_eq-apart desk.name (name_of desks k)
+      (λ same_name.
+      let found : Some k ≡ Some d =
+      sym (f.each k short) ∙ ap (λ (name : List ℕ). position_from (named name) 0 desks) (sym same_name) ∙ f.each d within in
+      let same_place : k ≡ d = cc in
+      apart same_place)
+
+  knows-still : (k : ℕ) → k < length desks → KnowsItsRows new (get_or desks k (new_desk [])) rows
+  knows-still k short =
+      knows-on old new (get_or desks k (new_desk [])) rows same (lines-of old rows (get_or desks k (new_desk [])) (f.held k)) (f.knows k short)
+
+  knows' : (k : ℕ) → k < length desks' → KnowsItsRows new (get_or desks' k (new_desk [])) (rows ++ entry ∷ [])
+  knows' k short =
+      let long : length desks' ≡ length desks = length-set desks d (with_row desk row) in
+      let before : k < length desks = omega (arith, short, long) in
+      elim (nat_eq-cases k d) [
+        | inl here ↦
+            let there : get_or desks' k (new_desk []) ≡ with_row desk row =
+            ap (λ (i : ℕ). get_or desks' i (new_desk [])) here ∙ get_or-set_same desks d (with_row desk row) (new_desk []) within in
+            subst (λ (x : DeskValue). KnowsItsRows new x (rows ++ entry ∷ [])) (sym there) (knows-own new desk row rows (knows-still d within))
+        | inr apart ↦
+            subst (λ (x : DeskValue). KnowsItsRows new x (rows ++ entry ∷ []))
+            (sym (get_or-set_other desks d k (with_row desk row) (new_desk []) apart))
+            (knows-other new (get_or desks k (new_desk [])) rows entry (apart-names k before apart) (knows-still k before))
+      ]
+
   sellers' : map (name_of desks') (owners_after owners d a) ≡ flat_map seller_of (rows ++ entry ∷ [])
   sellers' = owners-named (name_of desks') owners d desk.name new a (goes-on d).0
       ∙ ap (λ (names : List (List ℕ)). names ++ (seller_of entry ++ []))
@@ -404,6 +474,7 @@ module _ (old new : ControlValue) (desks : List DeskValue) (owners : List ℕ) (
     some = λ k. omega (arith, f.some k, (goes-on k).1);
     owned = All-push (IsOfDesk desks') rows entry (All-weaker (IsOfDesk desks) (IsOfDesk desks') owned-on rows f.owned) owned-last;
     held = held';
+    knows = knows';
     known = known-after desks d (with_row desk row) owners a within f.known;
     sold = known-in (λ (owner : ℕ). 1 < (get_or desks' owner (new_desk [])).next) owners d a sold-last
         (λ k e short. omega (arith, f.sold k e short, (goes-on (get_or owners k e)).1));
@@ -488,6 +559,7 @@ desks-passed old new desks owners rows same f = record {
         command = is.command;
         reply = is.reply ∙ sym (reply-same old new x.reply same is.line);
       }) (get_or desks d (new_desk [])).held (f.held d);
+  knows = λ d short. knows-on old new (get_or desks d (new_desk [])) rows same (lines-of old rows (get_or desks d (new_desk [])) (f.held d)) (f.knows d short);
   known = f.known;
   sold = f.sold;
   sellers = f.sellers;

@@ -15,7 +15,7 @@ use Rattle.nrm_hub.specs.Clients.{ClientValue, Hears, after_line, cut, joined_as
 use Rattle.nrm_hub.specs.Hub.{unseated}
 use Rattle.nrm_hub.specs.Desks.{HasItsReply, Turn, entry_of, turn_of}
 use Rattle.nrm_hub.specs.Lines.{Answers, How, asks, carried, greets_late, is_carried, is_denied, lacks, looks, may_not_ask, otherwise, passed, repeated}
-use Rattle.nrm_hub.specs.Lines.{at_line, denied_line, is_same, memory_line, repeats, row_under, runs_out, told_text}
+use Rattle.nrm_hub.specs.Lines.{at_line, denied_line, is_same, repeats, row_under, runs_out, told_text}
 use Rattle.nrm_hub.specs.Register.{Carries, DeskValue, Passes, RegisterValue, desk_at, name_at, new_desk, with_row}
 use Rattle.nrm_hub.specs.Rows.{Entry, row_text, rows_text}
 use Rattle.nrm_hub.specs.Taking.{TakesLine, answers, greets, lacks_memory, may_not_greet, refuses, too_many}
@@ -184,8 +184,8 @@ module _ (start : ControlValue) (begun : (s : SeatState) × Represents start s) 
     subst (λ (o : Option ℕ). IsBelow o (length r.desks)) (sym (hears-desk (after_line c line rest) c' denied_line hears)) seat,
   )
   became-taken c line rest _ _ _ _ seat spare unused (lacks_memory c' no_desk new hears) = (
-    became-otherwise r c.serial c.number (desk_name r c'.desk) line memory_line f refl (omega arith),
-    subst (λ (o : Option ℕ). IsBelow o (length r.desks)) (sym (hears-desk (after_line c line rest) c' memory_line hears)) seat,
+    became-otherwise r c.serial c.number (desk_name r c'.desk) line (text_of memory) f refl (omega arith),
+    subst (λ (o : Option ℕ). IsBelow o (length r.desks)) (sym (hears-desk (after_line c line rest) c' (text_of memory) hears)) seat,
   )
   became-taken c line rest _ _ _ _ seat spare unused (too_many no_desk new many none) =
       (became-otherwise r c.serial c.number (desk_name r c.desk) line [] f refl (omega arith), seat)

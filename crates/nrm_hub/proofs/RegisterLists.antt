@@ -12,7 +12,7 @@ use Rattle.nrm_stream.specs.declared.command.Command.{Command}
 use Rattle.nrm_stream.specs.declared.command.Command.TheVariants as command
 use Rattle.nrm_hub.specs.Lines.{is_same, row_under}
 use Rattle.nrm_hub.specs.Register.{DeskValue, new_desk, trimmed}
-use Rattle.nrm_hub.specs.Rows.{Entry, entry_text, rows_text}
+use Rattle.nrm_hub.specs.Rows.{Entry, row_text, rows_text}
 use Rattle.nrm_hub.specs.declared.limits.TheConstants.{MOST_HELD}
 use Rattle.nrm_hub.specs.declared.row.Row.{Row}
 
@@ -143,9 +143,9 @@ rows-joined before [] more =
     ap (λ (n : ℕ). rows_text n more) same
 rows-joined before (entry ∷ rows) more =
     let same : before + 1 + length rows ≡ before + suc (length rows) = omega arith in
-    ap (λ (t : List ℕ). entry_text (before + 1) entry ++ t)
+    ap (λ (t : List ℕ). row_text (before + 1) entry.desk entry.sequence entry.command entry.reply ++ t)
     (rows-joined (before + 1) rows more ∙ ap (λ (n : ℕ). rows_text (before + 1) rows ++ rows_text n more) same)
-    ∙ sym (append_assoc (entry_text (before + 1) entry) (rows_text (before + 1) rows) (rows_text (before + suc (length rows)) more))
+    ∙ sym (append_assoc (row_text (before + 1) entry.desk entry.sequence entry.command entry.reply) (rows_text (before + 1) rows) (rows_text (before + suc (length rows)) more))
 
 -- a row is one of these
 abbrev pub IsAmong : Entry → List Entry → Type 0

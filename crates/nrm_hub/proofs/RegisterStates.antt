@@ -1,19 +1,14 @@
 -- The rows give the state: what leaves no row leaves the state as it is.
-use Rattle.std.proofs.Common.{ℕ, ◌≡◌, ◌⊎◌, false, List, [], ◌∷◌, ◌++◌, All, flat_map, map, Option, Some, None, MatchOption, inl, inr}
+use Rattle.std.proofs.Common.{ℕ, ◌≡◌, ◌⊎◌, false, List, [], ◌∷◌, ◌++◌, All, flat_map, map, Option, inl, inr}
 use Rattle.std.proofs.Common.{refl, subst}
 use Rattle.std.specs.Prelude.{⊤}
-use Rattle.std.proofs.lemmas.Bool.{true≢false}
 use Rattle.std.proofs.lemmas.List.Elements.{All-head, All-nil, All-push, All-tail}
-use Rattle.nrm_model.specs.Network.{NetworkValue, leg_named}
+use Rattle.nrm_model.specs.Network.{NetworkValue}
 use Rattle.nrm_control.specs.State.{SeatState}
 use Rattle.nrm_frames.specs.declared.rights.Rights.{Rights}
-use Rattle.nrm_stream.specs.declared.command.Command.{Command}
-use Rattle.nrm_stream.specs.declared.command.Command.TheVariants as command
-use Rattle.nrm_session.specs.Replies.{Reply, memory}
+use Rattle.nrm_session.specs.Replies.{memory}
 use Rattle.nrm_session.specs.Run.{Run}
-use Rattle.nrm_session.specs.Step.{Step}
 use Rattle.nrm_session.proofs.Determined.{states-determined}
-use Rattle.nrm_session.proofs.OtherLines.{other-lines}
 use Rattle.nrm_hub.specs.Asked.{is_change}
 use Rattle.nrm_hub.specs.Clients.{ClientValue}
 use Rattle.nrm_hub.specs.Desks.{RowsGiveTheState, Turn, entry_in, entry_of, rows_in, turn_again, turn_in, turn_of}
@@ -23,6 +18,7 @@ use Rattle.nrm_hub.specs.Register.{RegisterValue}
 use Rattle.nrm_hub.specs.Rows.{Entry}
 use Rattle.nrm_hub.specs.Taking.{TakesLine, answers, greets, lacks_memory, may_not_greet, refuses, too_many}
 use Rattle.nrm_hub.specs.World.{Comes, Exchange, Happens, World, beginning, exchange_of, here, line_taken, then}
+use Rattle.nrm_hub.proofs.Entered.{same-state}
 
 -- a line that was carried out and has no row changed nothing, or memory ran out
 abbrev IsIdle : How → Type 0
@@ -65,27 +61,7 @@ idle-always : (first w : World) → AreIdle first.answered → Comes first w →
 idle-always first _ idle here = idle
 idle-always first _ idle (then w w' comes happens) = idle-on w w' (idle-always first w idle comes) happens
 
--- ---- and it left the state as it is
-by-option : {X : Type 0} (o : Option X) (reply none : Reply) (some : X → Reply) (s s' : SeatState)
-    → MatchOption o ((reply ≡ none) × (s' ≡ s)) (λ x. (reply ≡ some x) × (s' ≡ s)) → s' ≡ s
-by-option None reply none some s s' given = given.1
-by-option (Some x) reply none some s s' given = given.1
-
-looks-stay : (net : NetworkValue) (s s' : SeatState) (c : Command) (reply : Reply) → is_change c ≡ false → Step net s c reply s' → s' ≡ s
-looks-stay net s s' (command.Book name party) reply unchanging step = absurd (true≢false unchanging)
-looks-stay net s s' (command.Cancel number) reply unchanging step = absurd (true≢false unchanging)
-looks-stay net s s' (command.Reoptimise k) reply unchanging step = absurd (true≢false unchanging)
-looks-stay net s s' (command.Leg name) reply unchanging step = by-option (leg_named net name) reply _ _ s s' step
-looks-stay net s s' command.Hindsight reply unchanging step = step.1
-looks-stay net s s' command.Plan reply unchanging step = step.1
-looks-stay net s s' command.Bad reply unchanging step = step.1
-
-idle-stays : (net : NetworkValue) (s s' : SeatState) (c : Command) (reply : Reply) → (is_change c ≡ false) ⊎ (reply ≡ memory)
-    → Step net s c reply s' → s' ≡ s
-idle-stays net s s' c reply (inl unchanging) step = looks-stay net s s' c reply unchanging step
-idle-stays net s s' c reply (inr none) step = (other-lines net s s' c (subst (λ (r : Reply). Step net s c r s') none step)).1
-
--- ---- so it can be left out of a run
+-- ---- and it left the state as it is, so it can be left out of a run
 abbrev RunOver : NetworkValue → SeatState → List Turn → SeatState → Type 0
 RunOver net s turns s' = Run net s (map (λ (turn : Turn). turn.0) turns) (map (λ (turn : Turn). turn.1) turns) s'
 
@@ -94,7 +70,7 @@ without-one : (net : NetworkValue) (how : How) (desk : List ℕ) (n : ℕ) (turn
     → RunOver net s (turn_in how ++ turns) s' → RunOver net s (map turn_again (entry_in desk n how ++ rows)) s'
 without-one net (carried c reply) desk n turns rows s s' idle on (mid, step, run) = (mid, step, on mid run)
 without-one net (passed c reply) desk n turns rows s s' idle on (mid, step, run) =
-    on s (subst (λ (m : SeatState). RunOver net m turns s') (idle-stays net s mid c reply idle step) run)
+    on s (subst (λ (m : SeatState). RunOver net m turns s') (same-state net s mid c reply idle step) run)
 without-one net (repeated row) desk n turns rows s s' idle on run = on s run
 without-one net otherwise desk n turns rows s s' idle on run = on s run
 

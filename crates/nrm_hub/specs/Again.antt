@@ -25,18 +25,12 @@ pub record RowRead : Type 0 where
 abbrev pub row_with : Option ℕ → Option (List ℕ) → Option ℕ → Command → Option RowRead
 row_with (Some number) (Some name) (Some sequence) c =
     if is_change c then Some (record { number = number; name = name; sequence = sequence; command = c }) else None
-row_with (Some number) (Some name) None c = None
-row_with (Some number) None sequence c = None
-row_with None name sequence c = None
+row_with number name sequence c = None
 
 abbrev pub row_of_fields : List (List ℕ) → Option RowRead
 row_of_fields (number ∷ name ∷ sequence ∷ command ∷ reply ∷ more) =
     row_with (whole_between 1 MOST_ROWS number) (name_in name) (whole_between 1 LAST_SEQUENCE sequence) (command_of command)
-row_of_fields [] = None
-row_of_fields (number ∷ []) = None
-row_of_fields (number ∷ name ∷ []) = None
-row_of_fields (number ∷ name ∷ sequence ∷ []) = None
-row_of_fields (number ∷ name ∷ sequence ∷ command ∷ []) = None
+row_of_fields other = None
 
 abbrev pub row_of : List ℕ → Option RowRead
 row_of line = row_of_fields (slice_split (λ c. c == 9) line)

@@ -19,17 +19,8 @@ pub record ClientValue : Type 0 where
   pub closing : Option Why
 
 abbrev pub new_client : ℕ → List ℕ → Rights → ClientValue
-new_client serial name rights = record {
-  serial = serial;
-  name = name;
-  rights = rights;
-  desk = None;
-  number = 1;
-  coming = [];
-  told = [];
-  used = 0;
-  closing = None;
-}
+new_client serial name rights =
+    record { serial = serial; name = name; rights = rights; desk = None; number = 1; coming = []; told = []; used = 0; closing = None }
 
 -- more bytes came
 abbrev pub with_piece : ClientValue → List ℕ → ClientValue

@@ -1,5 +1,5 @@
 -- The theorem of many desks, to be read aloud.
-use Rattle.std.specs.Prelude.{ℕ, ◌≡◌, ◌==◌, ◌+◌, ◌<◌, ◌≤◌, Bool, true, false, List, [], ◌∷◌, ◌++◌, AllPairs, All, filter, flat_map, length, map, take, Option, Some, None, ⊤}
+use Rattle.std.specs.Prelude.{ℕ, ◌≡◌, ◌==◌, ◌+◌, ◌<◌, ◌≤◌, Bool, true, false, List, [], ◌∷◌, ◌++◌, AllPairs, All, bytes_eq, filter, flat_map, length, map, take, Option, Some, None, ⊤}
 use Rattle.nrm_model.specs.Network.{NetworkValue}
 use Rattle.nrm_control.specs.State.{SeatState}
 use Rattle.nrm_control.specs.Standing.{ControlValue, IsControl, Represents}
@@ -9,13 +9,14 @@ use Rattle.nrm_frames.specs.declared.header.Header.{Header}
 use Rattle.nrm_frames.specs.declared.header.Header.TheVariants as header
 use Rattle.nrm_stream.specs.Lines.{whole_lines}
 use Rattle.nrm_stream.specs.declared.command.Command.{Command}
+use Rattle.nrm_session.specs.Answering.{reply_in}
 use Rattle.nrm_session.specs.Replies.{Reply, sold, text_of}
 use Rattle.nrm_session.specs.Run.{Run}
 use Rattle.nrm_hub.specs.Asked.{allows, asked_in}
 use Rattle.nrm_hub.specs.Clients.{ClientValue}
 use Rattle.nrm_hub.specs.Hub.{client_at}
 use Rattle.nrm_hub.specs.Lines.{How, carried, denied_line, otherwise, passed, repeated, told_text}
-use Rattle.nrm_hub.specs.Register.{RegisterValue, name_at}
+use Rattle.nrm_hub.specs.Register.{DeskValue, RegisterValue, desk_at, name_at, trimmed}
 use Rattle.nrm_hub.specs.Rows.{Entry, rows_text}
 use Rattle.nrm_hub.specs.Taking.{TakesLine, may_greet}
 use Rattle.nrm_hub.specs.Waiting.{IsTold, OfEach}
@@ -23,6 +24,7 @@ use Rattle.nrm_hub.specs.World.{Comes, Exchange, World, beginning}
 use Rattle.nrm_hub.specs.declared.asked.Asked.{Asked}
 use Rattle.nrm_hub.specs.declared.asked.Asked.TheVariants as asked
 use Rattle.nrm_hub.specs.declared.limits.TheConstants.{LAST_SEQUENCE}
+use Rattle.nrm_hub.specs.declared.row.Row.{Row}
 use Rattle.nrm_hub.specs.declared.phase.Phase.TheVariants as phase
 
 abbrev pub IsFrontOf : {A : Type 0} → List A → List A → Type 0
@@ -36,17 +38,14 @@ Turn = Command × Reply
 abbrev pub turn_in : How → List Turn
 turn_in (carried c reply) = (c, reply) ∷ []
 turn_in (passed c reply) = (c, reply) ∷ []
-turn_in (repeated row) = []
-turn_in otherwise = []
+turn_in other = []
 
 abbrev pub turn_of : Exchange → List Turn
 turn_of e = turn_in e.how
 
 abbrev pub entry_in : List ℕ → ℕ → How → List Entry
 entry_in desk sequence (carried c reply) = record { desk = desk; sequence = sequence; command = c; reply = reply } ∷ []
-entry_in desk sequence (passed c reply) = []
-entry_in desk sequence (repeated row) = []
-entry_in desk sequence otherwise = []
+entry_in desk sequence other = []
 
 abbrev pub entry_of : Exchange → List Entry
 entry_of e = entry_in e.desk e.sequence e.how
@@ -135,23 +134,44 @@ pub record IsHeard (w : World) (c : ClientValue) : Type 0 where
   pub bytes : w.came c.serial ≡ bytes_in (of_client c.serial w.answered) ++ c.coming
   pub used : w.used c.serial + c.used ≡ length (bytes_in (of_client c.serial w.answered))
 
+-- the rows of one desk; the number that its next line may have behind them; and its last ones, which it holds
+abbrev pub rows_of : List ℕ → List Entry → List Entry
+rows_of name rows = filter (λ (e : Entry). bytes_eq e.desk name) rows
+
+abbrev pub next_after : ℕ → List Entry → ℕ
+next_after next [] = next
+next_after next (entry ∷ more) = next_after (entry.sequence + 1) more
+
+abbrev pub held_after : List Entry → List Entry → List Entry
+held_after held [] = held
+held_after held (entry ∷ more) = held_after (trimmed (held ++ entry ∷ [])) more
+
+abbrev pub entry_with : ControlValue → List ℕ → Row → Entry
+entry_with control name row = record { desk = name; sequence = row.sequence; command = row.command; reply = reply_in control row.reply }
+
+-- What a desk knows is what its own rows leave, in whatever order those of others came between.
+pub record KnowsItsRows (control : ControlValue) (desk : DeskValue) (rows : List Entry) : Type 0 where
+  pub next : desk.next ≡ next_after 1 (rows_of desk.name rows)
+  pub held : map (entry_with control desk.name) desk.held ≡ held_after [] (rows_of desk.name rows)
+
 -- From the beginning on:
 pub record AreServed (start : ControlValue) (w : World) : Type 0 where
   -- all that was carried out is one run
   pub run : IsOneRun start w.hub.register.control (turns_in w)
-  -- the rows that were given again and given out, and those that are to be given out, are just those of what was carried out, in order, with
-  -- their replies
+  -- the rows that were given again, those given out, and those still to be given out are just those of what was carried out, with their replies
   pub rows : rows_given w ++ w.hub.register.text ≡ rows_text 0 (rows_in w)
   -- the lines of each client that were answered are the first of the whole lines that it sent, in its order
   pub lines : (k : ℕ) → IsFrontOf (lines_in (of_client k w.answered)) (whole_lines (w.came k))
   -- what was sent to it is a front of the replies to these, none of which was sent before its row was said to be kept
   pub sent : (k : ℕ) → SentWhenSafe w k
-  -- each client that is there is heard; and where no word is awaited all that was answered is kept, and nothing waits to be sent to anybody
+  -- each client that is there is heard; and where the hub has settled all that was answered is kept, and nothing waits to be sent to anybody
   pub heard : (place : ℕ) (c : ClientValue) → client_at w.hub place ≡ Some c → c.closing ≡ None → IsHeard w c
   pub settled : w.hub.phase ≡ phase.Settled → (w.safe ≡ length w.answered) × OfEach IsTold w.hub
   -- of each desk each number is carried out at most once, and what a line is told is the reply to it, also when it comes again
   pub once : AllPairs NumbersRise (rows_in w)
   pub replies : All (λ (e : Exchange). HasItsReply (rows_in w) e e.how) w.answered
+  -- each desk knows just its own rows
+  pub known : (d : ℕ) → d < length w.hub.register.desks → KnowsItsRows w.hub.register.control (desk_at w.hub.register d) (rows_in w)
   -- and the owners of bookings, by which a desk may cancel its own, are the desks that they were sold to, in order
   pub owners : map (name_at w.hub.register) w.hub.register.owners ≡ flat_map seller_of (rows_in w)
 
@@ -162,8 +182,7 @@ DesksAreServed = (start : ControlValue) (w : World) → IsControl start → Come
 -- whether a client may have a line answered by what it asks: greet by that name, look at what is to be had, or have the command carried out
 abbrev pub is_allowed : RegisterValue → ClientValue → Option ℕ → Asked → Bool
 is_allowed r c None (asked.Greeting name number) = may_greet c name
-is_allowed r c None (asked.Ask product) = true
-is_allowed r c None (asked.Says command) = true
+is_allowed r c None other = true
 is_allowed r c (Some d) (asked.Greeting name number) = true
 is_allowed r c (Some d) (asked.Ask product) = c.rights.look
 is_allowed r c (Some d) (asked.Says command) = allows c.rights r.owners d command

@@ -1,5 +1,5 @@
 -- The hub: what all desks have in common, the clients by their places, and what is awaited.
-use Rattle.std.specs.Prelude.{ℕ, ◌++◌, ◌&&◌, Bool, true, false, not, List, [], get_or, map, option_map, slice_set, Option, Some, None, is_some, if◌then◌else◌}
+use Rattle.std.specs.Prelude.{ℕ, ◌&&◌, Bool, true, false, not, List, [], get_or, map, option_map, slice_set, Option, Some, None, is_some, if◌then◌else◌}
 use Rattle.nrm_control.specs.Standing.{ControlValue}
 use Rattle.nrm_frames.specs.declared.why.Why.{Why}
 use Rattle.nrm_frames.specs.declared.why.Why.TheVariants as why
@@ -26,22 +26,17 @@ client_at h place = get_or h.clients place None
 abbrev pub with_client : HubValue → ℕ → Option ClientValue → HubValue
 with_client h place c = record h { clients = slice_set h.clients place c }
 
--- places that nobody was at may be added behind the others
-abbrev pub with_places : HubValue → List (Option ClientValue) → HubValue
-with_places h more = record h { clients = h.clients ++ more }
-
--- frames of clients may come: the journal was given again, what waits for clients isn't being sent, and the last frame didn't come
-abbrev pub takes_frames : Phase → Bool
-takes_frames phase.Settled = true
-takes_frames phase.Answering = true
-takes_frames phase.Asked = true
-takes_frames other = false
-
--- lines may be taken: neither is the word awaited that all is kept
+-- lines may be taken: the journal was given again, the word that all is kept isn't awaited, what waits for clients isn't being sent, and the last
+-- frame didn't come
 abbrev pub takes_lines : Phase → Bool
 takes_lines phase.Settled = true
 takes_lines phase.Answering = true
 takes_lines other = false
+
+-- frames of clients may come: then, and while that word is awaited
+abbrev pub takes_frames : Phase → Bool
+takes_frames phase.Asked = true
+takes_frames other = takes_lines other
 
 -- somebody is to be closed, who waits for the word that all is kept
 abbrev pub after_closing : Phase → Phase

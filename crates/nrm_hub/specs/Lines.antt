@@ -26,12 +26,6 @@ at_line number = text_line (codes "at" ∷ decimal number ∷ [])
 abbrev pub denied_line : List ℕ
 denied_line = codes "denied\n"
 
-abbrev pub bad_line : List ℕ
-bad_line = codes "bad\n"
-
-abbrev pub memory_line : List ℕ
-memory_line = codes "memory\n"
-
 -- what bounds a party, by what one seat more would be answered: the fare, a leg, or the most that a line may ask for
 abbrev pub bound_words : Reply → List (List ℕ)
 bound_words (no_leg name) = codes "leg" ∷ name ∷ []
@@ -80,7 +74,7 @@ pub data How : Type 0 where
 -- became of it.
 pub data Answers (r : RegisterValue) (rights : Rights) (d n : ℕ) (line : List ℕ) : RegisterValue → How → List ℕ → Type 0 where
   greets_late : (name : List ℕ) (number : Option ℕ) → asked_in line ≡ asked.Greeting name number
-      → Answers r rights d n line r otherwise bad_line
+      → Answers r rights d n line r otherwise (text_of bad)
   asks : (name : List ℕ) → asked_in line ≡ asked.Ask name → rights.look ≡ true
       → Answers r rights d n line r otherwise (available_line r.control name (product_named r.control.net name))
   may_not_ask : (name : List ℕ) → asked_in line ≡ asked.Ask name → rights.look ≡ false → Answers r rights d n line r otherwise denied_line
@@ -91,9 +85,9 @@ pub data Answers (r : RegisterValue) (rights : Rights) (d n : ℕ) (line : List 
       → is_change c ≡ true → (desk_at r d).next ≤ n → r.rows < MOST_ROWS → Carries r r' d n c reply
       → Answers r rights d n line r' (carried c (reply_in r'.control reply)) (text_of (reply_in r'.control reply))
   runs_out : (c : Command) (r' : RegisterValue) → asked_in line ≡ asked.Says c → allows rights r.owners d c ≡ true → is_change c ≡ true
-      → (desk_at r d).next ≤ n → r.rows < MOST_ROWS → Passes r r' c memory → Answers r rights d n line r' (passed c memory) memory_line
+      → (desk_at r d).next ≤ n → r.rows < MOST_ROWS → Passes r r' c memory → Answers r rights d n line r' (passed c memory) (text_of memory)
   lacks : (c : Command) → asked_in line ≡ asked.Says c → allows rights r.owners d c ≡ true → is_change c ≡ true
-      → (desk_at r d).next ≤ n → r.rows < MOST_ROWS → Answers r rights d n line r otherwise memory_line
+      → (desk_at r d).next ≤ n → r.rows < MOST_ROWS → Answers r rights d n line r otherwise (text_of memory)
   looks : (c : Command) (r' : RegisterValue) (reply : Reply) → asked_in line ≡ asked.Says c → allows rights r.owners d c ≡ true
       → is_change c ≡ false → Passes r r' c reply → Answers r rights d n line r' (passed c reply) (told_text reply)
   -- its row is there

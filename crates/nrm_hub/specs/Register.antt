@@ -46,7 +46,7 @@ abbrev pub desk_named : RegisterValue → List ℕ → Option ℕ
 desk_named r name = position_from (λ desk. bytes_eq desk.name name) 0 r.desks
 
 -- at least the last hundred rows of a desk are held, and fewer than two hundred
-abbrev pub trimmed : List Row → List Row
+abbrev pub trimmed : {A : Type 0} → List A → List A
 trimmed held = if nat_lt (length held) (MOST_HELD + MOST_HELD) then held else drop MOST_HELD held
 
 abbrev pub with_row : DeskValue → Row → DeskValue
@@ -75,8 +75,7 @@ pub record Passes (old new : RegisterValue) (c : Command) (reply : Reply) : Type
 abbrev pub renamed : RegisterValue → ℕ → List ℕ → RegisterValue
 renamed r d name = record r { desks = slice_set r.desks d (new_desk name) }
 
--- The desk of a name, by its number: it is there, it is added behind the others, or, where there are as many as may be, it has the number of
--- one that is spare.
+-- The number of the desk of a name: the desk is there, it is added behind the others, or, where there is no room, it takes that of a spare one.
 pub data Joins (spare : Option ℕ) (old : RegisterValue) (name : List ℕ) : RegisterValue → ℕ → Type 0 where
   there : (d : ℕ) → desk_named old name ≡ Some d → Joins spare old name old d
   added : desk_named old name ≡ None → Joins spare old name (record old { desks = old.desks ++ new_desk name ∷ [] }) (length old.desks)

@@ -16,10 +16,8 @@ abbrev pub row_text : ℕ → List ℕ → ℕ → Command → Reply → List �
 row_text number desk sequence c reply =
     decimal number ++ 9 ∷ desk ++ 9 ∷ decimal sequence ++ 9 ∷ command_text c ++ 9 ∷ text_of reply
 
-abbrev pub entry_text : ℕ → Entry → List ℕ
-entry_text number entry = row_text number entry.desk entry.sequence entry.command entry.reply
-
 -- rows behind so many others
 abbrev pub rows_text : ℕ → List Entry → List ℕ
 rows_text before [] = []
-rows_text before (entry ∷ more) = entry_text (before + 1) entry ++ rows_text (before + 1) more
+rows_text before (entry ∷ more) =
+    row_text (before + 1) entry.desk entry.sequence entry.command entry.reply ++ rows_text (before + 1) more

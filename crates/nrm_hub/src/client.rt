@@ -406,7 +406,7 @@ impl Client {
     }
 
     // Takes the line that ends at a place, by what it asks for.
-    fn take_by(
+    fn answer_by(
         &mut self,
         alloc: Global,
         register: &mut Register,
@@ -433,7 +433,7 @@ impl Client {
     }
 
     // Takes the line that ends at a place.
-    fn take_at(
+    fn answer_at(
         &mut self,
         alloc: Global,
         register: &mut Register,
@@ -449,7 +449,7 @@ impl Client {
         ensures line { IsLine result }
     {
         let asked = asked_in(part(&self.bytes, self.start, end));
-        self.take_by(alloc, register, &asked, spare, end);
+        self.answer_by(alloc, register, &asked, spare, end);
         if takes_long(&asked) {
             Took::LongLine
         } else {
@@ -459,7 +459,7 @@ impl Client {
 
     /// Takes its next line, if a whole one waits. If it becomes a desk by that, where there are as many as may be, the one that is spare is
     /// forgotten.
-    pub(crate) fn take(
+    pub(crate) fn use_next(
         &mut self,
         alloc: Global,
         register: &mut Register,
@@ -478,7 +478,7 @@ impl Client {
         }
         let waiting = self.bytes.len() - self.start;
         match line_end(part(&self.bytes, self.start, waiting.min(MOST_LINE))) {
-            Some(end) => self.take_at(alloc, register, spare, end),
+            Some(end) => self.answer_at(alloc, register, spare, end),
             None if waiting < MOST_LINE => Took::Nothing,
             None => {
                 self.close(Why::Long);

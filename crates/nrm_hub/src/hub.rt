@@ -234,14 +234,14 @@ impl Hub {
     }
 
     // Takes the next line of the client at a place. If it becomes a desk by that, every other client that is the desk is to be closed.
-    fn take_line(&mut self, alloc: Global, place: u16) -> Took
+    fn use_line(&mut self, alloc: Global, place: u16) -> Took
         requires { takes_lines self.old.phase ≡ true }
         ensures goes { Goes self.old self.new [] [] }
         ensures phase { takes_lines self.new.phase ≡ true }
         ensures turn { MakesSo HadTurn self.old.clients self.new.clients place }
     {
         let was = desk_of(&self.clients, place);
-        let took = take_at(
+        let took = use_line_at(
             alloc,
             &mut self.register,
             &mut self.clients,
@@ -264,16 +264,16 @@ impl Hub {
     }
 
     // Takes lines of the client at a place: no more than may be taken at a time, and none behind one that may take long.
-    fn take_lines(&mut self, alloc: Global, place: u16)
+    fn use_lines(&mut self, alloc: Global, place: u16)
         requires { takes_lines self.old.phase ≡ true }
         ensures goes { Goes self.old self.new [] [] }
         ensures phase { takes_lines self.new.phase ≡ true }
         ensures turn { MakesSo HadTurn self.old.clients self.new.clients place }
     {
-        let mut took = self.take_line(alloc, place);
+        let mut took = self.use_line(alloc, place);
         for _ in 1..MOST_LINES {
             match took {
-                Took::Line => took = self.take_line(alloc, place),
+                Took::Line => took = self.use_line(alloc, place),
                 Took::Nothing | Took::LongLine | Took::TooLong => return,
             }
         }
@@ -287,13 +287,13 @@ impl Hub {
     }
 
     // Gives the client at a place its turn.
-    fn take_turn(&mut self, alloc: Global, place: u16)
+    fn give_turn(&mut self, alloc: Global, place: u16)
         requires { takes_lines self.old.phase ≡ true }
         ensures goes { Goes self.old self.new [] [] }
         ensures phase { takes_lines self.new.phase ≡ true }
         ensures turn { MakesSo HadTurn self.old.clients self.new.clients place }
     {
-        self.take_lines(alloc, place);
+        self.use_lines(alloc, place);
         self.end_turn(place);
     }
 
@@ -332,14 +332,14 @@ impl Hub {
     }
 
     // Gives each client of a list its turn, in their order.
-    fn take_turns(&mut self, alloc: Global, listed: &Due)
+    fn give_turns(&mut self, alloc: Global, listed: &Due)
         requires { takes_lines self.old.phase ≡ true }
         ensures goes { Goes self.old self.new [] [] }
         ensures phase { takes_lines self.new.phase ≡ true }
         ensures turns { AreSo HadTurn self.old.clients self.new.clients listed.now (due_count listed.now) }
     {
         for at in 0..listed.count() {
-            self.take_turn(alloc, listed.at(at));
+            self.give_turn(alloc, listed.at(at));
         }
     }
 
@@ -374,7 +374,7 @@ impl Hub {
             return Ok(());
         }
         let listed = self.begin_round(alloc);
-        self.take_turns(alloc, &listed);
+        self.give_turns(alloc, &listed);
         self.put_back(listed);
         if let Phase::Settled = self.phase {
             return Ok(());
@@ -704,7 +704,7 @@ fn spare_for(register: &Register, clients: &[Option<Client>], place: u16) -> Opt
 }
 
 // Takes the next line of the client at a place, if somebody is there who isn't to be closed.
-fn take_at(
+fn use_line_at(
     alloc: Global,
     register: &mut Register,
     clients: &mut Vec<Option<Client>>,
@@ -727,7 +727,7 @@ fn take_at(
     if client.closing().is_some() {
         return Took::Nothing;
     }
-    let took = client.take(alloc, register, spare);
+    let took = client.use_next(alloc, register, spare);
     list(heard, client, place);
     took
 }

@@ -3,7 +3,8 @@ ghost use Rattle.nrm_hub.specs.Desks.{DesksAreServed, RightsHold, RowsGiveTheSta
 
 /// Whatever happens at the desks, in whatever order: all that was carried out is one run of the session; the rows that were given out are just
 /// those of what was carried out, with their replies; each client is sent the replies to its own lines, in order, none before the rows of all that
-/// was answered before are kept, and all of them where no word is awaited; of each desk each number is carried out at most once, and a line that comes again gets the reply that it had.
+/// was answered before are kept, and all of them once these were told and until the next line is answered or somebody is to be closed; of each desk
+/// each number is carried out at most once, a line that comes again gets the reply that it had, and a desk holds just what its own rows leave.
 pub fn desks_are_served()
     ensures { DesksAreServed }
 {}

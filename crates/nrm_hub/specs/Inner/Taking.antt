@@ -3,7 +3,7 @@ use Rattle.std.specs.Prelude.{ℕ, ◌≡◌, ◌==◌, ◌+◌, ◌<◌, ◌≤
 use Rattle.nrm_frames.specs.declared.why.Why.TheVariants as why
 use Rattle.nrm_hub.specs.Clients.{ClientValue, Hears, after_line, closed_for, joined_as, with_piece}
 use Rattle.nrm_hub.specs.Asked.{asked_in}
-use Rattle.nrm_hub.specs.Lines.{How, memory_line}
+use Rattle.nrm_hub.specs.Lines.{How}
 use Rattle.nrm_hub.specs.Register.{Joins, RegisterValue, desk_at}
 use Rattle.nrm_hub.specs.Taking.{TakesLine}
 use Rattle.nrm_hub.specs.Waiting.{HasNoLine}
@@ -14,6 +14,7 @@ use Rattle.nrm_hub.specs.declared.client.Took.TheVariants as took
 use Rattle.nrm_hub.specs.declared.line.Taken.{Taken}
 use Rattle.nrm_hub.specs.declared.line.Taken.TheVariants as become
 use Rattle.nrm_hub.specs.declared.register.JoinFault.{JoinFault}
+use Rattle.nrm_session.specs.Replies.{memory, text_of}
 use Rattle.nrm_hub.specs.declared.register.JoinFault.TheVariants as join
 
 -- a piece came from a client, or it is to be closed
@@ -45,7 +46,7 @@ Excuses c c' end text = Hears (after_line c (take end c.coming) (drop (end + 1) 
 
 -- it was used by a client whose name has no desk
 abbrev pub GoesWithout : ClientValue → ClientValue → ℕ → JoinFault → Type 0
-GoesWithout c c' end join.NoMemory = Excuses c c' end memory_line
+GoesWithout c c' end join.NoMemory = Excuses c c' end (text_of memory)
 GoesWithout c c' end join.TooMany = c' ≡ closed_for (after_line c (take end c.coming) (drop (end + 1) c.coming)) why.Desks
 
 -- it was taken, by a client that perhaps became a desk before

@@ -27,7 +27,7 @@ SPARE_FILES = 64  # beside those of clients and programs
 FILES_OF_A_PROGRAM = 2
 BACKLOG = 1024  # clients that may wait to be taken
 IN_A_ROUND = 32  # of those, so many are taken before others are answered
-CLOSED = b"closed clients\n"  # that isn't told where TLS is spoken, since the handshake would come first
+CLOSED = b"closed clients\n"  # not sent over TLS, since the handshake would come first
 ENDS = (signal.SIGTERM, signal.SIGINT, signal.SIGHUP)
 
 

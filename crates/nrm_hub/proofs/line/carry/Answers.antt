@@ -1,9 +1,9 @@
 -- The line was carried out, or memory ran out before it, or there are as many rows as there may be.
 use Rattle.std.proofs.Common.{◌≤◌, ◌<◌, arith, refl, subst, sym}
 use Rattle.nrm_session.specs.Answering.{reply_in}
-use Rattle.nrm_session.specs.Replies.{text_of}
+use Rattle.nrm_session.specs.Replies.{memory, text_of}
 use Rattle.nrm_hub.specs.Inner.Answered.{IsAnswered}
-use Rattle.nrm_hub.specs.Lines.{is_full, lacks, memory_line, otherwise}
+use Rattle.nrm_hub.specs.Lines.{is_full, lacks, otherwise}
 use Rattle.nrm_hub.specs.Register.{RegisterValue}
 use Rattle.nrm_hub.specs.declared.limits.TheConstants.{MOST_ROWS}
 use Rattle.nrm_hub.proofs.LineAnswers.{answered-line, answers-carried, row-unless_memory}
@@ -28,7 +28,7 @@ returns-in-Err c = λ line says.
     let room : r.rows < MOST_ROWS = omega (arith, c.rows.ensures.rows) in
     subst (λ (r' : RegisterValue). IsAnswered r r' c.args.asker.rights c.args.asker.desk c.args.asker.sequence line told
     c.tell.new.told.waiting c.tell.result) (sym c.in-Err.ensures.err)
-    (answered-line r r c.args.asker.rights c.args.asker.desk c.args.asker.sequence line told c.tell.new.told.waiting otherwise memory_line
+    (answered-line r r c.args.asker.rights c.args.asker.desk c.args.asker.sequence line told c.tell.new.told.waiting otherwise (text_of memory)
     c.tell.result (lacks c.args.command.now says c.requires.allowed c.requires.changes c.requires.new room) c.tell.ensures)
 
 pub returns-in-Ok : goal.returns-in-Ok

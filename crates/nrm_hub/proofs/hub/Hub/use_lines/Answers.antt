@@ -3,19 +3,19 @@ use Rattle.std.proofs.Common.{[]}
 use Rattle.nrm_hub.specs.Waiting.{HadTurn}
 use Rattle.nrm_hub.proofs.DuePlaces.{makes-then}
 use Rattle.nrm_hub.proofs.Going.{goes-on}
-use Rattle.nrm_hub.proofs.hub.Hub.take_lines.Goals as goal
+use Rattle.nrm_hub.proofs.hub.Hub.use_lines.Goals as goal
 
 pub loop-init : goal.loop-init
 loop-init c = record {
-  goes = c.take_line-took.ensures.goes;
-  lines = c.take_line-took.ensures.phase;
-  turn = c.take_line-took.ensures.turn;
+  goes = c.use_line-took.ensures.goes;
+  lines = c.use_line-took.ensures.phase;
+  turn = c.use_line-took.ensures.turn;
 }
 
 pub loop-preserved : goal.loop-preserved
 loop-preserved c =
     let l = c.loop in
-    let next = c.take_line-took-in-Line in
+    let next = c.use_line-took-in-Line in
     record {
       goes = goes-on c.args.self.now l.self next.new.self [] [] l.invariant.goes next.ensures.goes;
       lines = next.ensures.phase;

@@ -11,7 +11,7 @@ use Rattle.nrm_hub.specs.Register.{RegisterValue}
 use Rattle.nrm_hub.specs.Spare.{IsSpare}
 use Rattle.std.proofs.lemmas.List.{get_or_past}
 use Rattle.nrm_hub.proofs.HubPlaces.{at-place, none-of, takes-nothing, unchanged}
-use Rattle.nrm_hub.proofs.hub.take_at.Goals as goal
+use Rattle.nrm_hub.proofs.hub.use_line_at.Goals as goal
 
 -- what is said of the clients as they were read is said of them
 abbrev IsSpareAt : RegisterValue → ℕ → Option ℕ → List (Option ClientValue) → Type 0
@@ -68,14 +68,14 @@ returns-clause-takes c =
     let clients = c.args.clients.now.items in
     let within : c.args.place < length clients = omega (arith, c.args.clients.now.ok.0) in
     let r = c.args.register.now in
-    subst (λ (x : ClientValue). TakesBy r c.take-took.new.register clients c.args.place (slice_set clients c.args.place (Some x)) c.take-took.result)
+    subst (λ (x : ClientValue). TakesBy r c.use_next-took.new.register clients c.args.place (slice_set clients c.args.place (Some x)) c.use_next-took.result)
     (sym c.list.ensures.client)
     (record {
       spare = c.spare_for-spare.result;
       is_spare = spare-of r c.args.place c.spare_for-spare.result c.deref.result.now clients c.deref.ensures.value c.spare_for-spare.ensures.spare;
-      takes = takes c.in-Some.client c.take-took.new.self c.take-took.result
+      takes = takes c.in-Some.client c.use_next-took.new.self c.use_next-took.result
           (at-place clients c.args.place c.index_mut.result.now within c.index_mut.ensures.value ∙ c.in-Some.is)
-          (sym c.closing.ensures ∙ none-of c.closing.result (sym c.if-is_some.ensures)) c.take-took.ensures.took;
+          (sym c.closing.ensures ∙ none-of c.closing.result (sym c.if-is_some.ensures)) c.use_next-took.ensures.took;
     })
 
 pub returns-in_default-clause-due : goal.returns-in_default-clause-due

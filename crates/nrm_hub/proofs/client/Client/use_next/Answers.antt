@@ -5,7 +5,7 @@ use Rattle.nrm_hub.specs.Clients.{ClientValue}
 use Rattle.nrm_hub.specs.Inner.Taking.{Takes, line, nothing, too_long}
 use Rattle.nrm_hub.specs.declared.limits.TheConstants.{MOST_LINE}
 use Rattle.nrm_hub.proofs.ClientLines.{front-place, no-line, none-passes, takes-seated, took-line}
-use Rattle.nrm_hub.proofs.client.Client.take.Goals as goal
+use Rattle.nrm_hub.proofs.client.Client.use_next.Goals as goal
 
 pub returns-then-self-gt-MOST_USED-clause-takes : goal.returns-then-self-gt-MOST_USED-clause-takes
 returns-then-self-gt-MOST_USED-clause-takes c = nothing
@@ -19,31 +19,31 @@ place : (start n : ℕ) (bytes read got coming : List ℕ) (at : _) → got ≡ 
 place start n bytes read got coming at cut same is found =
     sym (found ∙ ap (λ (b : List ℕ). position (λ c. c == 10) b) (front start n bytes read got coming cut same is))
 
-pub take_at-requires-clause-end : goal.take_at-requires-clause-end
-take_at-requires-clause-end c =
+pub answer_at-requires-clause-end : goal.answer_at-requires-clause-end
+answer_at-requires-clause-end c =
     let coming : List ℕ = c.args.self.now.coming in
     (front-place (λ c. c == 10) coming c.min.result c.in-Some.end
     (place c.self.inside.start c.min.result c.self.inside.bytes.items c.deref.result.now c.part.result.now coming (Some c.in-Some.end) c.part.ensures
     c.deref.ensures.value (ap (λ (x : ClientValue). x.coming) c.self.view_is) c.in-Some.ensures)).0
 
-takes-now : (c : goal.After-take_at) → Takes c.args.spare c.args.register.now c.args.self.now c.take_at.new.register c.take_at.new.self
+takes-now : (c : goal.After-answer_at) → Takes c.args.spare c.args.register.now c.args.self.now c.answer_at.new.register c.answer_at.new.self
 takes-now c =
     let coming : List ℕ = c.args.self.now.coming in
     let ends = front-place (λ c. c == 10) coming c.min.result c.in-Some.end
     (place c.self.inside.start c.min.result c.self.inside.bytes.items c.deref.result.now c.part.result.now coming (Some c.in-Some.end) c.part.ensures
     c.deref.ensures.value (ap (λ (x : ClientValue). x.coming) c.self.view_is) c.in-Some.ensures) in
-    line c.in-Some.end c.take_at.new.register c.take_at.new.self ends.0 (omega (arith, ends.1, c.min.ensures)) c.take_at.ensures.takes
+    line c.in-Some.end c.answer_at.new.register c.answer_at.new.self ends.0 (omega (arith, ends.1, c.min.ensures)) c.answer_at.ensures.takes
 
 pub returns-in-Some-clause-takes : goal.returns-in-Some-clause-takes
 returns-in-Some-clause-takes c = takes-now c
 
 pub returns-in-Some-clause-seated : goal.returns-in-Some-clause-seated
 returns-in-Some-clause-seated c =
-    (takes-seated c.args.register.now c.args.self.now c.take_at.new.register c.take_at.new.self (takes-now c) c.requires.spare c.requires.within).0
+    (takes-seated c.args.register.now c.args.self.now c.answer_at.new.register c.answer_at.new.self (takes-now c) c.requires.spare c.requires.within).0
 
 pub returns-in-Some-clause-grown : goal.returns-in-Some-clause-grown
 returns-in-Some-clause-grown c =
-    (takes-seated c.args.register.now c.args.self.now c.take_at.new.register c.take_at.new.self (takes-now c) c.requires.spare c.requires.within).1
+    (takes-seated c.args.register.now c.args.self.now c.answer_at.new.register c.answer_at.new.self (takes-now c) c.requires.spare c.requires.within).1
 
 pub returns-in-Some-clause-took : goal.returns-in-Some-clause-took
 returns-in-Some-clause-took c =
@@ -51,8 +51,8 @@ returns-in-Some-clause-took c =
     let ends = front-place (λ c. c == 10) coming c.min.result c.in-Some.end
     (place c.self.inside.start c.min.result c.self.inside.bytes.items c.deref.result.now c.part.result.now coming (Some c.in-Some.end) c.part.ensures
     c.deref.ensures.value (ap (λ (x : ClientValue). x.coming) c.self.view_is) c.in-Some.ensures) in
-    took-line c.args.register.now c.take_at.new.register c.args.self.now c.take_at.new.self c.in-Some.end c.take_at.result ends.0
-    (omega (arith, ends.1, c.min.ensures)) c.take_at.ensures.takes c.take_at.ensures.line
+    took-line c.args.register.now c.answer_at.new.register c.args.self.now c.answer_at.new.self c.in-Some.end c.answer_at.result ends.0
+    (omega (arith, ends.1, c.min.ensures)) c.answer_at.ensures.takes c.answer_at.ensures.line
 
 pub returns-in-None-clause-takes : goal.returns-in-None-clause-takes
 returns-in-None-clause-takes c = nothing

@@ -5,7 +5,7 @@ use Rattle.nrm_hub.specs.Inner.Seats.{AreSo}
 use Rattle.nrm_hub.specs.Waiting.{HadTurn}
 use Rattle.nrm_hub.proofs.DuePlaces.{none-so, one-more}
 use Rattle.nrm_hub.proofs.Going.{goes-nothing, goes-on}
-use Rattle.nrm_hub.proofs.hub.Hub.take_turns.Goals as goal
+use Rattle.nrm_hub.proofs.hub.Hub.give_turns.Goals as goal
 
 pub loop-at-init : goal.loop-at-init
 loop-at-init c = record {
@@ -17,12 +17,12 @@ loop-at-init c = record {
 pub loop-at-preserved : goal.loop-at-preserved
 loop-at-preserved c =
     let l = c.loop-at in
-    let new = c.take_turn.new.self in
+    let new = c.give_turn.new.self in
     record {
-      goes = goes-on c.args.self.now l.self new [] [] l.invariant.goes c.take_turn.ensures.goes;
-      lines = c.take_turn.ensures.phase;
+      goes = goes-on c.args.self.now l.self new [] [] l.invariant.goes c.give_turn.ensures.goes;
+      lines = c.give_turn.ensures.phase;
       so = one-more HadTurn c.args.self.now.clients l.self.clients new.clients c.args.listed.now l.at c.at.result c.at.ensures l.invariant.so
-          c.take_turn.ensures.turn;
+          c.give_turn.ensures.turn;
     }
 
 pub returns-clause-goes : goal.returns-clause-goes

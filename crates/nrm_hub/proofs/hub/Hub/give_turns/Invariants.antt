@@ -4,7 +4,7 @@ use Rattle.nrm_hub.specs.Goes.{Goes}
 use Rattle.nrm_hub.specs.Hub.{takes_lines}
 use Rattle.nrm_hub.specs.Inner.Seats.{AreSo}
 use Rattle.nrm_hub.specs.Waiting.{HadTurn}
-use Rattle.nrm_hub.proofs.hub.Hub.take_turns.Given as goal
+use Rattle.nrm_hub.proofs.hub.Hub.give_turns.Given as goal
 
 abbrev pub invariant-loop-at : goal.invariant-loop-at
 invariant-loop-at l = record {

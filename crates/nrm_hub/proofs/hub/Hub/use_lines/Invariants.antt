@@ -4,7 +4,7 @@ use Rattle.nrm_hub.specs.Goes.{Goes}
 use Rattle.nrm_hub.specs.Hub.{takes_lines}
 use Rattle.nrm_hub.specs.Inner.Seats.{MakesSo}
 use Rattle.nrm_hub.specs.Waiting.{HadTurn}
-use Rattle.nrm_hub.proofs.hub.Hub.take_lines.Given as goal
+use Rattle.nrm_hub.proofs.hub.Hub.use_lines.Given as goal
 
 abbrev pub invariant-loop : goal.invariant-loop
 invariant-loop l = record {
