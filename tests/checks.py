@@ -97,6 +97,21 @@ def placed(words):
     return words
 
 
+def want_of_itself(ran, name, usage):
+    """Whether a program that is run, with its output as text, answers `--help` with its usage line and more, and
+    `--version` with the version at the top; both as the only word."""
+    with open(os.path.join(TOP, "VERSION")) as file:
+        want(ran("--version"), (f"{name} {file.read().strip()}\n", 0), "--version")
+    text, status = ran("--help")
+    want((text.startswith(usage), text.endswith("\n"), status), (True, True, 0), f"--help: {text}")
+    want_in(text, "docs/commands.md")
+    for word in "--help", "--version":
+        for words in ((word, "x"), ("x", word), (word, word, word), (word[:-1],), (word[1:],)):
+            want(ran(*words), (usage, 2), words)
+        with open("/dev/full", "wb") as full:
+            want(ran(word, stdout=full)[1], 5, f"{word} to a full output")
+
+
 def itself(words):
     """The words of a program: in the place of a script at the top, which answers some words by itself, those of what the
     script builds if need be."""

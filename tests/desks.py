@@ -35,6 +35,7 @@ from checks import TOP, want
 EMPTY = "in again\nout ready 0\n"
 TWO_LEGS, BID_PRICES, CERTIFICATE = (
     os.path.join(TOP, "examples", it, "network.csv") for it in ("two-legs", "bid-prices", "certificate"))
+USAGE = b"usage: nrm_desks MODE FILE\n"
 BAD, X = r"bad\n", r"x\n"
 ALL = "look,book,cancel-own,cancel-any,plan,greet"
 GREATEST = 999_999_999_999_999
@@ -1134,8 +1135,17 @@ def as_many_desks_as_there_may_be(place):
 
 @test
 def words_that_are_no_use(place):
-    for words in ((), ("first",), ("last", TWO_LEGS), ("first", TWO_LEGS, "x"), ("--help",), ("run", "first", "x")):
-        want(place.ran(*words), (b"usage: nrm_desks MODE FILE\n", 2), words)
+    for words in ((), ("first",), ("last", TWO_LEGS), ("first", TWO_LEGS, "x"), ("help",), ("run", "first", "x")):
+        want(place.ran(*words), (USAGE, 2), words)
+
+
+@test
+def what_it_says_of_itself(place):
+    def ran(*words, **more):
+        written, status = place.ran(*words, **more)
+        return (written or b"").decode(), status
+
+    checks.want_of_itself(ran, "nrm_desks", USAGE.decode())
 
 
 @test

@@ -251,6 +251,11 @@ def usage(place):
 
 
 @test
+def what_it_says_of_itself(place):
+    checks.want_of_itself(place.ran, "nrm_why", USAGE)
+
+
+@test
 def files_that_are_refused(place):
     want(place.ran("first", "none.csv", "1"), ("refused no file\n", 3), "no file")
     want(place.ran("first", place.folder, "1"), ("file fault\n", 9), "a folder")

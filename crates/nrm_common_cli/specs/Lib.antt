@@ -1,3 +1,4 @@
+pub mod About
 pub mod Faults
 pub mod Inner
 pub mod NetworkFile
