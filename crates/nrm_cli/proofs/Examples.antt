@@ -27,7 +27,7 @@ use Rattle.nrm_findings.specs.Summary.{nothing_counted}
 use Rattle.nrm_findings.proofs.Examples.{two_legs}
 use Rattle.nrm_cli.specs.Made.{counts_from, hindsight_in, last_of}
 use Rattle.nrm_findings.specs.declared.summary.Counts.{Counts}
-use Rattle.nrm_cli.specs.Numbers.{number_of}
+use Rattle.nrm_cli.specs.Statuses.{number_of}
 use Rattle.nrm_cli.specs.declared.status.Status.{Status}
 use Rattle.nrm_cli.specs.declared.status.Status.TheVariants as status
 use Rattle.nrm_common_cli.specs.Refusals.{network_under, refusal_line, no_file, at_row, file_fault_line}

@@ -4,6 +4,6 @@ pub mod Inner
 pub mod Jobs
 pub mod LegTexts
 pub mod Made
-pub mod Numbers
 pub mod Own
+pub mod Statuses
 pub mod Tells

@@ -8,8 +8,8 @@ use Rattle.nrm_model.specs.declared.mode.Mode.TheVariants as mode
 use Rattle.nrm_hub.specs.Hub.{HubValue, new_hub}
 use Rattle.nrm_hub.specs.declared.phase.Phase.TheVariants as phase
 use Rattle.nrm_desks_cli.specs.Jobs.{desks_job_of, usage_line}
-use Rattle.nrm_desks_cli.specs.Numbers.{number_of}
 use Rattle.nrm_desks_cli.specs.Served.{MayNotCome}
+use Rattle.nrm_desks_cli.specs.Statuses.{number_of}
 use Rattle.nrm_desks_cli.specs.declared.serving.TheConstants.{MOST_BYTES}
 use Rattle.nrm_desks_cli.specs.declared.status.DesksStatus.TheVariants as status
 

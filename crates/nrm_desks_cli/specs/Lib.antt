@@ -1,5 +1,5 @@
 pub mod Ends
 pub mod Inner
 pub mod Jobs
-pub mod Numbers
 pub mod Served
+pub mod Statuses

@@ -12,7 +12,7 @@ use Rattle.nrm_session.specs.Replies.{sold, cancelled, memory}
 use Rattle.nrm_keeper.specs.declared.row.KeptRow.{KeptRow}
 use Rattle.nrm_kept_cli.specs.Jobs.{kept_job_of, store_refused_line}
 use Rattle.nrm_kept_cli.specs.Laws.{carried_out, replies_to_those}
-use Rattle.nrm_kept_cli.specs.Numbers.{number_of}
+use Rattle.nrm_kept_cli.specs.Statuses.{number_of}
 use Rattle.nrm_kept_cli.specs.Rows.{load, loaded_state, next_behind, nothing_loaded, rows_of}
 use Rattle.nrm_kept_cli.specs.declared.status.KeptStatus.TheVariants as status
 use Rattle.nrm_kept_cli.specs.Run.{KeptRun, count_after}

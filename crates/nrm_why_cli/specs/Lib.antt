@@ -1,4 +1,4 @@
 pub mod Ends
 pub mod Inner
 pub mod Jobs
-pub mod Numbers
+pub mod Statuses

@@ -1,6 +1,6 @@
 //! Statuses.
 ghost use Rattle.std.specs.Prelude.{◌≡◌};
-ghost use Rattle.nrm_why_cli.specs.Numbers.{number_of};
+ghost use Rattle.nrm_why_cli.specs.Statuses.{number_of};
 
 use nrm_common_cli::Statuses;
 
