@@ -35,10 +35,10 @@ class Talk:
         self.process.wait()
 
 
-def mixed(program, mode, file, network, count, seed=3):
+def mixed(program, mode, file, network, count):
     """`count` lines: of 100 some 70 book, 25 cancel any booking that stands, 4 ask for a leg, and one is bad or names
     nothing; at each quarter the plan is made anew."""
-    draw, talk = random.Random(seed), Talk(program, mode, file)
+    draw, talk = random.Random(3), Talk(program, mode, file)
     products, legs = [name for name, _, _ in network.products], [name for name, _ in network.legs]
 
     def line(at):

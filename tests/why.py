@@ -63,9 +63,9 @@ class Place:
         want(done.stderr, b"", f"standard error of {words}")
         return (done.stdout or b"").decode("latin-1"), done.returncode
 
-    def account(self, mode, network, lines, number, status=0):
+    def account(self, mode, network, lines, number):
         text, ended = self.ran(mode, network, str(number), given="".join(f"{it}\n" for it in lines).encode())
-        want(ended, status, f"the status of line {number} of {lines}, which wrote {text!r}")
+        want(ended, 0, f"the status of line {number} of {lines}, which wrote {text!r}")
         return text
 
 

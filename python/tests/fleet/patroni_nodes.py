@@ -11,7 +11,7 @@ import signal
 import subprocess
 import urllib.request
 from pathlib import Path
-from typing import Dict, Iterator, List, Mapping, Sequence
+from typing import Dict, Iterator, List, Sequence
 
 import databases  # of the folder tests at the top
 from databases import LOOPBACK, NAMES, USER, Databases, Fault, keeper, send, title_of, tool
@@ -54,7 +54,6 @@ class Nodes(Databases):
         self.places: Dict[str, str] = {}
         self.before: Dict[str, Sequence[str]] = {}
         self.rests: Dict[str, int] = {}
-        self.changes: Mapping[str, str] = {}
         self.etcd_at, self.etcd_port = LOOPBACK, 0
         self.running: Dict[str, subprocess.Popen[bytes]] = {}
 
@@ -78,14 +77,13 @@ class Nodes(Databases):
     # Made and begun
 
     def make_nodes(self, ports: Sequence[int], places: Sequence[str] = (LOOPBACK,) * 3,
-                   before: Sequence[Sequence[str]] = ((),) * 3, etcd_at: str = LOOPBACK,
-                   changes: Mapping[str, str] = {}) -> None:
+                   before: Sequence[Sequence[str]] = ((),) * 3, etcd_at: str = LOOPBACK) -> None:
         """Makes an etcd and three nodes, begins them, and waits until they follow each other. Of the eight ports two
-        are etcd's, and two each node's; `changes` are of the template's text."""
+        are etcd's, and two each node's."""
         etcd, peer, *others = ports
         self.ports, self.rests = dict(zip(NAMES, others[:3])), dict(zip(NAMES, others[3:]))
         self.places, self.before = dict(zip(NAMES, places)), dict(zip(NAMES, before))
-        self.etcd_at, self.etcd_port, self.changes = etcd_at, etcd, changes
+        self.etcd_at, self.etcd_port = etcd_at, etcd
         self.make_folder()
         self.begin_etcd(peer)
         for it in self.ports:
@@ -147,7 +145,7 @@ class Nodes(Databases):
             "/var/lib/postgresql/15/fleet": str(self.folder / server),
             "/usr/lib/postgresql/15/bin": str(Path(tool("initdb")).parent), "/etc/patroni/": f"{self.folder}/",
             **{f"PASSWORD-OF-{it}": PASSWORD for it in ("PATRONI", "POSTGRES", "REPLICATOR", "REWINDER")},
-            'ssl: "on"\n': 'ssl: "on"\n    unix_socket_directories: ""\n', **QUICK, **self.changes}
+            'ssl: "on"\n': 'ssl: "on"\n    unix_socket_directories: ""\n', **QUICK}
         for old, new in changes.items():
             if old not in text:
                 raise Fault(f"{TEMPLATE.name} has no {old!r}")

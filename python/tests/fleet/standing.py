@@ -190,13 +190,13 @@ class FleetTest(PlaceTest):
         made.make(free_ports(3), cls.addresses)
         return made
 
-    def fleet(self, mode: str = "first", file: str = "", count: int = 3) -> Fleet:
+    def fleet(self, file: str = "", count: int = 3) -> Fleet:
         """A journal with one network in a database of its own, without a server."""
         name = f"fleet{next(self.runs)}"
         self.databases.asked(self.databases.primary(), f"CREATE DATABASE {name}")
         made = Fleet(self.folder, self.databases.uri(database=name), count)
         self.addCleanup(made.end)
-        made.open("net", mode, Path(self.file("net.csv", file or ONE)))
+        made.open("net", "first", Path(self.file("net.csv", file or ONE)))
         return made
 
     def begun(self, count: int = 1, *options: str) -> tuple[Fleet, list[Server]]:

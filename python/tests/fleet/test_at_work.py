@@ -66,9 +66,9 @@ class AtWork(FleetTest):
             self.assertEqual(self.database.ask(f"SELECT count(*), max(sequence) FROM line WHERE desk = 'D{at}'"),
                              [(count, count)])
 
-    def wait_for_replies(self, counts: Sequence[int], more: int = 50) -> None:
-        """Waits until each desk has had some more replies."""
-        wanted = [it + more for it in counts]
+    def wait_for_replies(self, counts: Sequence[int]) -> None:
+        """Waits until each desk has had 50 more replies."""
+        wanted = [it + 50 for it in counts]
         wait_for(lambda: all(it >= least for it, least in zip(counts, wanted)), "more replies", PATIENT)
 
     def test_who_leaves_hands_over_networks_at_work(self) -> None:

@@ -199,8 +199,8 @@ def member(server: int, name: str, program: str = "p", leaving: bool = False, yo
     return Member(server, name, f"{name}:1", program, leaving, young)
 
 
-def head(number: int, server: int | None, program: str = "p", lines: int = 5) -> Head:
-    return Head(number, f"n{number}", "first", program, False, None, lines, 1, server)
+def head(number: int, server: int | None) -> Head:
+    return Head(number, f"n{number}", "first", "p", False, None, 5, 1, server)
 
 
 def seen(members: list[Member], heads: list[Head], dead: frozenset[int] = frozenset(),

@@ -37,9 +37,9 @@ class FakeManager:
         self.socket = socket.socket(socket.AF_UNIX, socket.SOCK_DGRAM)
         self.socket.bind(f"\0{name}" if is_abstract else self.name)
 
-    def variables(self, is_watched: bool = True, **more: str) -> Mapping[str, str]:
+    def variables(self) -> Mapping[str, str]:
         """What a process is begun with."""
-        return {"NOTIFY_SOCKET": self.name, **({"WATCHDOG_USEC": "3000000"} if is_watched else {}), **more}
+        return {"NOTIFY_SOCKET": self.name, "WATCHDOG_USEC": "3000000"}
 
     def next(self, seconds: float = SECONDS) -> Mapping[str, str]:
         """What is told next; nothing if nothing is within some seconds."""

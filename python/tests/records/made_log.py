@@ -17,11 +17,11 @@ class MadeLog:
 
     PRODUCTS = ["lh454_27Nov", "LH454 Économie Flex", "LH454 Économie Saver", "ZV-Q", "a;b,c"]
 
-    def __init__(self, seed: int, seasons: int = 5, requests: int = 400) -> None:
+    def __init__(self, seed: int, seasons: int = 5) -> None:
         draw = random.Random(seed)
         first = datetime.date(2024, 12, draw.randint(1, 28))
         self.departures = [first + datetime.timedelta(7 * it) for it in range(seasons)]
-        days = draw.choices(self.departures, k=requests) + self.departures
+        days = draw.choices(self.departures, k=400) + self.departures
         self.requests = [(it, it - datetime.timedelta(draw.randint(0, 90)), draw.choice(self.PRODUCTS),
                           draw.randint(1, 4)) for it in days]
 

@@ -10,11 +10,11 @@ from nrm.seasons.results import Results
 ONE_LEG = "periods,1,1,2\nleg,AB,{seats},{authorised}{thresholds}\nproduct,P,{fare},AB\ndemand,P,1,2\n"
 
 
-def results_of(earned: Mapping[str, Sequence[int]], bound: int = 1000) -> Results:
+def results_of(earned: Mapping[str, Sequence[int]]) -> Results:
     """The results of seasons on the network of one leg."""
     rows = ["season,mode,history,requests,bound,revenue,withheld,denied,empty,earned,booked AB,shown AB,asked P,"
             "refused P"]
-    rows += [f"{season},{mode},1,2,{bound}.0000,{value},0,0,1,{value},1,1,2,1"
+    rows += [f"{season},{mode},1,2,1000.0000,{value},0,0,1,{value},1,1,2,1"
              for mode, values in earned.items() for season, value in enumerate(values)]
     return Results.of(csv.reader(rows))
 

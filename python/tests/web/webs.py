@@ -59,10 +59,10 @@ class Running:
     def post(self, path: str, line: str | bytes, **head: str) -> Told:
         return self.ask("POST", path, line if isinstance(line, bytes) else line.encode(), **head)
 
-    def raw(self, sent: bytes, seconds: float = SECONDS, is_half: bool = False) -> bytes:
+    def raw(self, sent: bytes, is_half: bool = False) -> bytes:
         """What comes back for some bytes, up to the end of the connection; nothing more is sent if it is half."""
         told = b""
-        with socket.create_connection(("127.0.0.1", self.port), seconds) as connection:
+        with socket.create_connection(("127.0.0.1", self.port), SECONDS) as connection:
             with contextlib.suppress(ConnectionError):
                 connection.sendall(sent)
                 if is_half:

@@ -17,7 +17,7 @@ from typing import Iterator, NamedTuple
 from nrm.desk import Desk, DeskError, Ended, Strange
 from nrm.web.messages import PASSES, HttpRefusal
 
-MOST, IDLE, SECONDS = 500, 60.0, 10.0
+MOST, IDLE = 500, 60.0
 LETTERS = "0123456789ABCDEFGHIJKLMNOPQRSTUVWXYZ"
 MOST_ANSWER = 200
 FOR_GOOD = {  # by the word with which the server turns a desk away: the status, and why
@@ -77,8 +77,8 @@ class DeskConnection:
 class Connections:
     """The desks in whose names somebody asks."""
 
-    def __init__(self, place: str, seconds: float = SECONDS, most: int = MOST, idle: float = IDLE) -> None:
-        self.place, self.seconds, self.most, self.idle = place, seconds, most, idle
+    def __init__(self, place: str, seconds: float) -> None:
+        self.place, self.seconds, self.most, self.idle = place, seconds, MOST, IDLE
         self.lock = threading.Lock()
         self.entries: dict[Who, DeskConnection] = {}
 

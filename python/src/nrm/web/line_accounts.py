@@ -19,8 +19,8 @@ FIRST = "nrm-tools why: "  # of what it tells on standard error
 class Accounts:
     """What the command prints of lines of a journal, if it may be run."""
 
-    def __init__(self, journal: str, is_on: bool, seconds: float = SECONDS) -> None:
-        self.journal, self.is_on, self.seconds = word_of(journal), is_on, seconds
+    def __init__(self, journal: str, is_on: bool) -> None:
+        self.journal, self.is_on, self.seconds = word_of(journal), is_on, SECONDS
         self.lock = threading.Lock()
 
     def text(self, network: str, number: int) -> str:

@@ -126,6 +126,6 @@ def json_of(value: object, status: int = 200, head: Pairs = ()) -> HttpResponse:
     return HttpResponse(json.dumps(value, ensure_ascii=False).encode() + b"\n", JSON, status, head)
 
 
-def text_of(text: str, status: int = 200, head: Pairs = ()) -> HttpResponse:
+def text_of(text: str, status: int = 200) -> HttpResponse:
     """An answer in a line of text."""
-    return HttpResponse(text.encode() + b"\n", TEXT, status, head)
+    return HttpResponse(text.encode() + b"\n", TEXT, status)

@@ -19,9 +19,9 @@ Changed = Callable[[], "dict[str, object]"]
 class Streams:
     """All streams, of which there are so many at the most."""
 
-    def __init__(self, following: Following, most: int = MOST) -> None:
+    def __init__(self, following: Following) -> None:
         self.following = following
-        self.free = threading.BoundedSemaphore(most)
+        self.free = threading.BoundedSemaphore(MOST)
 
     def begin(self, changed: Changed) -> HttpStream:
         """A stream of what a call says that has changed."""

@@ -58,9 +58,9 @@ class ViewedNetwork:
 class PricedNetworks:
     """All networks that somebody looks at."""
 
-    def __init__(self, kept: Connections, own: Callable[[str], Who], following: Following,
-                 clock: Callable[[], float] = time.monotonic) -> None:
-        self.kept, self.own, self.following, self.clock = kept, own, following, clock
+    def __init__(self, kept: Connections, own: Callable[[str], Who], following: Following) -> None:
+        self.kept, self.own, self.following = kept, own, following
+        self.clock: Callable[[], float] = time.monotonic
         self.lock = threading.Lock()
         self.entries: dict[str, ViewedNetwork] = {}
         self.wanted: queue.Queue[tuple[Followed, bool, bool]] = queue.Queue()
