@@ -12,7 +12,7 @@ pub(crate) const ALLOTTED: &[i64] = &[12, 12, 16, 24, 0];
 pub(crate) const PRICES: &[i64] = &[150, 80];
 
 // One leg of no seats, and one product at 100.
-fn no_seats(alloc: Global) -> Result<Program, AllocError> {
+pub(crate) fn no_seats(alloc: Global) -> Result<Program, AllocError> {
     let caps = vec![in alloc; 0]?;
     let bounds = vec![in alloc; 5]?;
     let fares = vec![in alloc; 100]?;

@@ -26,7 +26,7 @@ fn assert_program(rt: &impl Abort, program: &Program, caps: &[u32], bounds: &[u3
     assert_eq!(rt; program.legs_of(1), [0].as_slice());
 }
 
-fn program_at_opening(alloc: Global) -> Result<Program, AllocError> {
+pub(crate) fn program_at_opening(alloc: Global) -> Result<Program, AllocError> {
     let net = two_legs_last_first(alloc)?;
     opening_program(alloc, &net)
 }
@@ -102,7 +102,7 @@ fn solves_five_products(rt: HostRuntime) -> Result<(), Fail> {
 }
 
 // The opening program where the authorised seats are not the physical ones, and the mean value of what is optimised there.
-fn program_at_authorised(alloc: Global) -> Result<Program, AllocError> {
+pub(crate) fn program_at_authorised(alloc: Global) -> Result<Program, AllocError> {
     let net = two_legs_authorised(alloc)?;
     opening_program(alloc, &net)
 }
@@ -150,7 +150,7 @@ fn mean_values_are_in_lowest_terms(rt: HostRuntime) -> Result<(), Fail> {
 }
 
 // Hindsight with requests for two seats of the through product and three of the local one.
-fn program_by_hindsight(alloc: Global) -> Result<Program, AllocError> {
+pub(crate) fn program_by_hindsight(alloc: Global) -> Result<Program, AllocError> {
     let net = two_legs_last_first(alloc)?;
     hindsight_program(alloc, &net, &[2, 3])
 }

@@ -14,6 +14,8 @@ mod row;
 #[cfg(test)]
 mod samples;
 #[cfg(test)]
+mod search;
+#[cfg(test)]
 mod simplex;
 #[cfg(test)]
 mod tableau;

@@ -8,7 +8,7 @@ use std::alloc::{AllocError, Global};
 use std::test::Fail;
 
 // Three legs of one seat, and three products on two of them each.
-fn triangle(alloc: Global) -> Result<Program, AllocError> {
+pub(crate) fn triangle(alloc: Global) -> Result<Program, AllocError> {
     let caps = vec![in alloc; 1, 1, 1]?;
     let bounds = vec![in alloc; 1, 1, 1]?;
     let fares = vec![in alloc; 2, 2, 3]?;
@@ -48,7 +48,7 @@ fn legs_with_triangle(alloc: Global) -> Result<Vec<Vec<u8>>, AllocError>
 }
 
 // 64 legs, bounds and fares at their greatest, with the triangle and without it.
-fn dear_triangle(alloc: Global) -> Result<Program, AllocError> {
+pub(crate) fn dear_triangle(alloc: Global) -> Result<Program, AllocError> {
     let caps = vec![in alloc; 31_968u32; 64]?;
     let bounds = vec![in alloc; 31_968u32; 64]?;
     let fares = vec![in alloc; 99_999_999u32; 64]?;
@@ -56,7 +56,7 @@ fn dear_triangle(alloc: Global) -> Result<Program, AllocError> {
     Ok(Program::new(caps, bounds, fares, legs))
 }
 
-fn dear_singles(alloc: Global) -> Result<Program, AllocError> {
+pub(crate) fn dear_singles(alloc: Global) -> Result<Program, AllocError> {
     let caps = vec![in alloc; 31_968u32; 64]?;
     let bounds = vec![in alloc; 31_968u32; 61]?;
     let fares = vec![in alloc; 99_999_999u32; 61]?;
