@@ -1,3 +1,4 @@
+pub mod Call
 pub mod Ends
 pub mod Inner
 pub mod Jobs

@@ -1,5 +1,5 @@
 //! How the reading of a stream ended, with the line that goes with it.
-ghost use Rattle.std.specs.Prelude.{◌≡◌};
+ghost use Rattle.std.specs.Prelude.{◌≡◌, ◌≤◌};
 ghost use Rattle.nrm_common_cli.specs.Outside.{SentOn};
 ghost use Rattle.nrm_why_cli.specs.Inner.Parts.{EndsReading, EndsSession, SentSince};
 ghost use Rattle.nrm_why_cli.specs.Jobs.{absent_line};
@@ -26,6 +26,7 @@ fn line_of_absent(number: u64) -> Line
 // line.
 fn end_reading<K: Sink>(sink: &mut K, teller: &Teller) -> WhyStatus
     ensures ends { EndsReading teller.now (K.held sink.old) (K.held sink.new) (K.faults sink.old) (K.faults sink.new) result }
+    ensures later { K.faults sink.old ≤ K.faults sink.new }
     ensures sent { SentOn WhyStatus.WriteFault result (K.unsent sink.old) (K.unsent sink.new) }
 {
     if teller.ran_out {
@@ -44,6 +45,7 @@ fn end_reading<K: Sink>(sink: &mut K, teller: &Teller) -> WhyStatus
 /// Says how the reading of a stream ended.
 pub(crate) fn end_session<K: Sink>(sink: &mut K, end: End, teller: &Teller) -> WhyStatus
     ensures ends { EndsSession end teller.now (K.held sink.old) (K.held sink.new) (K.faults sink.old) (K.faults sink.new) result }
+    ensures later { K.faults sink.old ≤ K.faults sink.new }
     ensures sent { SentSince end result (K.unsent sink.old) (K.unsent sink.new) }
 {
     match end {

@@ -1,13 +1,15 @@
 //! The top call of the program that accounts for an answer.
 ghost use Rattle.std.specs.Prelude.{◌≡◌, ◌≤◌, ◌<◌, ◌^◌, is_some, map, option_map, string_bytes, IfSome, Some};
-ghost use Rattle.nrm_common_cli.specs.Outside.{SentOn, outside};
+ghost use Rattle.nrm_common_cli.specs.Outside.{Goes, SentOn, outside};
 ghost use Rattle.nrm_session.specs.Serving.{ServesBy, streams};
 ghost use Rattle.nrm_session.specs.declared.serving.TheConstants.{LATEST_START};
 ghost use Rattle.nrm_text.specs.Numbers.{whole_between};
 ghost use Rattle.nrm_model.specs.declared.limits.TheConstants.{MOST_STREAM_BYTES};
 ghost use Rattle.nrm_account.specs.Tellers.{Tells, TellsCut, can_tell};
 ghost use Rattle.nrm_account.specs.Laws.{AccountsAreOfTheirLines, AccountsGiveReplies, LargestPartiesAreSold, OutOfMemoryWritesNothing};
+ghost use Rattle.nrm_account.specs.PlannedBy.{PlannedByThatLine};
 ghost use Rattle.nrm_session.specs.Serving.{CountsFaults, SentOn as SentAtEnd};
+ghost use Rattle.nrm_why_cli.specs.Call.{Call, Failures};
 ghost use Rattle.nrm_why_cli.specs.Ends.{Ends};
 ghost use Rattle.nrm_why_cli.specs.Inner.Parts.{job_in};
 ghost use Rattle.nrm_why_cli.specs.Jobs.{why_job_of};
@@ -105,6 +107,10 @@ fn run_job<F: Files, S: Source, K: Sink>(
     requires { job.number < 2 ^ 63 }
     ensures ends { let at = outside F.contents F.faults S.coming S.faults K.held K.faults in
         Ends (Some (job_in job.entry)) (at files.old source.old sink.old) (at files.new source.new sink.new) result }
+    ensures failures { let at = outside F.contents F.faults S.coming S.faults K.held K.faults in
+        Failures result (at files.old source.old sink.old) (at files.new source.new sink.new) }
+    ensures goes { let at = outside F.contents F.faults S.coming S.faults K.held K.faults in
+        Goes (at files.old source.old sink.old) (at files.new source.new sink.new) }
     ensures sent { SentOn WhyStatus.WriteFault result (K.unsent sink.old) (K.unsent sink.new) }
 {
     let net = match open_network(alloc, files, job.file) {
@@ -124,9 +130,12 @@ fn run_job<F: Files, S: Source, K: Sink>(
 /// and what follows from that. The words (without the program's own name) are MODE, which is `first`, `bid` or `davn`, FILE, and NUMBER, the
 /// line's number, counted from 1. Each line of the stream is carried out, and no reply is written but that in the account.
 ///
-/// What the call says of itself: `call` ties the words, the file, the stream and the written bytes to the status. `accounts`: what is written
-/// as the lines are read is the account of the line that was asked for, in the state that a run of the session over the lines before it comes
-/// to. `replies`: the numbers of the account of a request give its reply by the rule alone: the first leg on which what is needed and what is
+/// What the call says of itself: `call` ties the words, the file, the stream and the written bytes to the status. If the words are good, the
+/// file gives a network with an opening plan, the stream is told and isn't too long, and nothing failed, then the account comes, or the line
+/// that says that there is no such line, or memory ran out and nothing was written; a count of faults rises only with the status of its
+/// fault; no count falls (`Call`). `accounts`: what is written as the lines are read is the account of the line that was asked for, in the
+/// state that a run of the session over the lines before it comes to. `planned`: the line that an account tells as the one that made the plan
+/// in force is a reoptimisation that left this plan, and if it tells 0, the plan is the opening's. `replies`: the numbers of the account of a request give its reply by the rule alone: the first leg on which what is needed and what is
 /// protected are more than what is left is named; else the fare is refused if it is below the sum of the bid prices; else the
 /// request is sold. `largest`: a request is sold exactly if its party is no larger than the one that the account tells. `memory`: if memory
 /// runs out for the account, nothing is written. `sent`: nothing is held back at the end.
@@ -138,9 +147,10 @@ pub fn run_why<F: Files, S: Source, K: Sink>(
     sink: &mut K,
 ) -> WhyStatus
     ensures call { let at = outside F.contents F.faults S.coming S.faults K.held K.faults in
-        Ends (why_job_of (map string_bytes words.now)) (at files.old source.old sink.old) (at files.new source.new sink.new) result }
+        Call (why_job_of (map string_bytes words.now)) (at files.old source.old sink.old) (at files.new source.new sink.new) result }
     ensures sent { SentOn WhyStatus.WriteFault result (K.unsent sink.old) (K.unsent sink.new) }
     ensures accounts { AccountsAreOfTheirLines }
+    ensures planned { PlannedByThatLine }
     ensures replies { AccountsGiveReplies }
     ensures largest { LargestPartiesAreSold }
     ensures memory { OutOfMemoryWritesNothing }
