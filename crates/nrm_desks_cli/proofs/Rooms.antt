@@ -1,7 +1,7 @@
 -- Bytes of which no whole frame waits are fewer than there is room for.
 use Rattle.std.proofs.Common.{ℕ, ◌≡◌, ◌∙◌, ◌+◌, ◌-◌, ◌<◌, ◌≤◌, Bool, true, false, ◌==◌, List, [], ◌∷◌, length, take, drop, Option, Some, None, refl, sym, ap}
 use Rattle.std.proofs.Common.{arith, inl, inr, length-drop}
-use Rattle.std.specs.Prelude.{⊤, if◌then◌else◌, ◌&&◌, nat_le, bytes_eq, codes}
+use Rattle.std.specs.Prelude.{option_map, ⊤, if◌then◌else◌, ◌&&◌, nat_le, bytes_eq, codes}
 use Rattle.std.specs.List.{position, slice_split}
 use Rattle.std.proofs.lemmas.Bool.{cases_lt, le-ltb, lt-ltb}
 use Rattle.std.proofs.lemmas.Bool.Decides.{nat_tests}
@@ -11,7 +11,7 @@ use Rattle.nrm_text.proofs.Places.{found}
 use Rattle.nrm_text.specs.Names.{name_in}
 use Rattle.nrm_text.specs.Numbers.{is_whole, value_of}
 use Rattle.nrm_frames.specs.Cutting.{cut_at, cut_of, headed_by, no_frame, part, payload_of, whole}
-use Rattle.nrm_frames.specs.Headers.{header_of, header_of_words, opening_of, piece_of, place_in, rights_in, size_in, size_of, some_of}
+use Rattle.nrm_frames.specs.Headers.{header_of, header_of_words, opening_of, piece_of, place_in, rights_in, size_in, size_of}
 use Rattle.nrm_frames.specs.declared.header.Header.{Header}
 use Rattle.nrm_frames.specs.declared.header.Header.TheVariants as header
 use Rattle.nrm_frames.specs.declared.limits.TheConstants.{MOST_HEADER, MOST_PAYLOAD}
@@ -43,11 +43,11 @@ size-within word =
     within-if (is_whole word && nat_le 0 (value_of word) && nat_le (value_of word) MOST_PAYLOAD) (value_of word)
     (below-of_le (is_whole word) (nat_le 0 (value_of word)) (value_of word) MOST_PAYLOAD)
 
-again-small : (size : Option ℕ) → IsWithin size → IsSmall (some_of header.Again size)
+again-small : (size : Option ℕ) → IsWithin size → IsSmall (option_map header.Again size)
 again-small None is = tt
 again-small (Some n) is = is
 
-gone-small : (place : Option ℕ) → IsSmall (some_of header.Gone place)
+gone-small : (place : Option ℕ) → IsSmall (option_map header.Gone place)
 gone-small None = tt
 gone-small (Some n) = omega arith
 
@@ -68,9 +68,9 @@ words-small (word ∷ []) =
     small-if (bytes_eq word (codes "kept")) (Some header.Kept) (if bytes_eq word (codes "end") then Some header.End else None) (omega arith)
     (small-if (bytes_eq word (codes "end")) (Some header.End) None (omega arith) tt)
 words-small (word ∷ next ∷ []) =
-    small-if (bytes_eq word (codes "gone")) (some_of header.Gone (place_in next))
-    (if bytes_eq word (codes "again") then some_of header.Again (size_in next) else None) (gone-small (place_in next))
-    (small-if (bytes_eq word (codes "again")) (some_of header.Again (size_in next)) None (again-small (size_in next) (size-within next)) tt)
+    small-if (bytes_eq word (codes "gone")) (option_map header.Gone (place_in next))
+    (if bytes_eq word (codes "again") then option_map header.Again (size_in next) else None) (gone-small (place_in next))
+    (small-if (bytes_eq word (codes "again")) (option_map header.Again (size_in next)) None (again-small (size_in next) (size-within next)) tt)
 words-small (word ∷ place ∷ size ∷ []) =
     small-if (bytes_eq word (codes "came")) (piece_of (place_in place) (size_in size)) None
     (piece-small (place_in place) (size_in size) (size-within size)) tt
