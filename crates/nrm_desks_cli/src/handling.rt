@@ -120,7 +120,11 @@ pub(crate) fn handle<K: Sink>(
 ///
 /// # Errors
 /// A put failed.
-pub(crate) fn answer_round<K: Sink>(alloc: Global, hub: &mut Hub, sink: &mut K) -> Result<(), Failed>
+pub(crate) fn answer_round<K: Sink>(
+    alloc: Global,
+    hub: &mut Hub,
+    sink: &mut K,
+) -> Result<(), Failed>
     requires { IsOpen hub.old }
     ensures puts { OnOk result (Puts hub.old hub.new [] (K.held sink.old) (K.held sink.new)) }
     ensures cut { OnErr result (PutsCut hub.old hub.new [] (K.held sink.old) (K.held sink.new)) }

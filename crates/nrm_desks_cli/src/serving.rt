@@ -11,7 +11,7 @@ ghost use Rattle.nrm_desks_cli.specs.Inner.Serving.{TakesOr, at_sink, end_of};
 ghost use Rattle.nrm_desks_cli.specs.Served.{IsDone, IsOpen};
 ghost use Rattle.nrm_desks_cli.specs.declared.serving.ServeEnd.TheVariants as end;
 
-use crate::handling::{Handled, handle, answer_round};
+use crate::handling::{Handled, answer_round, handle};
 use crate::incoming::Incoming;
 use nrm_edge::{Failed, Sink, Source};
 use nrm_frames::{Cut, cut_frame};

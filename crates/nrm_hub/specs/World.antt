@@ -50,8 +50,8 @@ pub record World : Type 0 where
 
 -- nothing has been yet
 abbrev pub beginning : ControlValue → World
-beginning control = record {
-  hub = new_hub control; inputs = []; outputs = []; again = []; answered = []; came = λ k. []; sent = λ k. []; used = λ k. 0; safe = 0 }
+beginning control =
+    record { hub = new_hub control; inputs = []; outputs = []; again = []; answered = []; came = λ k. []; sent = λ k. []; used = λ k. 0; safe = 0 }
 
 -- a function that is changed at one number
 abbrev pub at_one : {A : Type 0} → (ℕ → A) → ℕ → A → ℕ → A
@@ -77,8 +77,8 @@ with_opened w place name rights =
 -- a piece came from the client at a place
 abbrev pub with_piece_of : World → ℕ → ClientValue → List ℕ → World
 with_piece_of w place c piece =
-    record (after_frame w (frame (header.Came place (length piece)) piece) (with_client w.hub place (Some (with_piece c piece)))) {
-      came = at_one w.came c.serial (w.came c.serial ++ piece) }
+    let came = at_one w.came c.serial (w.came c.serial ++ piece) in
+    record (after_frame w (frame (header.Came place (length piece)) piece) (with_client w.hub place (Some (with_piece c piece)))) { came = came }
 
 -- the name of a client's desk, once it has one
 abbrev pub desk_name : RegisterValue → Option ℕ → List ℕ
@@ -91,13 +91,13 @@ exchange_of r c c' line how text =
     record { client = c.serial; desk = desk_name r c'.desk; sequence = c.number; line = line; how = how; text = text }
 
 abbrev pub with_answered : World → ℕ → RegisterValue → Option ℕ → ClientValue → Exchange → World
-with_answered w place r desk c exchange = record w { answered = w.answered ++ exchange ∷ []; hub = record w.hub {
-  clients = seated_after w.hub.clients place desk c; register = r; phase = phase.Answering } }
+with_answered w place r desk c exchange =
+    record w { hub = record w.hub { clients = seated_after w.hub.clients place desk c; register = r; phase = phase.Answering }; answered = w.answered ++ exchange ∷ [] }
 
 -- a client became a desk, whose next line has the number that is next
 abbrev pub with_desk : World → ℕ → ClientValue → ℕ → RegisterValue → World
-with_desk w place c d r = record w { hub = record w.hub {
-  clients = alone w.hub.clients place (joined_as c d (desk_at r d).next) (Some d); register = r; phase = phase.Answering } }
+with_desk w place c d r =
+    record w { hub = record w.hub { clients = alone w.hub.clients place (joined_as c d (desk_at r d).next) (Some d); register = r; phase = phase.Answering } }
 
 -- rows were given again: each is carried out under the number that it has, for the desk of its name, and leaves just this row
 pub data GivesAgain : RegisterValue → List Entry → RegisterValue → Type 0 where
@@ -134,8 +134,7 @@ pub data Happens (w : World) : World → Type 0 where
   -- rows are given again, until there are no more; clients may come once that is said
   rows_again : (payload : List ℕ) (rows : List Entry) (r : RegisterValue) → w.hub.phase ≡ phase.Replaying → payload ≢ []
       → payload ≡ rows_text w.hub.register.rows rows → GivesAgain w.hub.register rows r
-      → Happens w (record (after_frame w (frame (header.Again (length payload)) payload) (record w.hub { register = r })) {
-        again = w.again ++ rows })
+      → Happens w (record (after_frame w (frame (header.Again (length payload)) payload) (record w.hub { register = r })) { again = w.again ++ rows })
   readied : w.hub.phase ≡ phase.Replaying
       → Happens w (after_output (after_frame w (frame (header.Again 0) []) w.hub) (ready w.hub.register.rows) (record w.hub { phase = phase.Settled }))
   -- places that nobody is at are added; clients come and go; what comes for a place where nobody is, or one who is to be closed, is nothing
@@ -177,7 +176,9 @@ pub data Happens (w : World) : World → Type 0 where
   -- what waits for each client is sent, and behind it who is to be closed is closed, before anything else
   was_told : (place : ℕ) (c : ClientValue) → client_at w.hub place ≡ Some c → w.hub.phase ≡ phase.Telling
       → Happens w (record (after_output w (send place c.used c.told) (with_client w.hub place (Some (after_telling c)))) {
-        sent = at_one w.sent c.serial (w.sent c.serial ++ c.told); used = at_one w.used c.serial (w.used c.serial + c.used) })
+        sent = at_one w.sent c.serial (w.sent c.serial ++ c.told);
+        used = at_one w.used c.serial (w.used c.serial + c.used);
+      })
   was_closed : (place : ℕ) (c : ClientValue) (reason : Why) → client_at w.hub place ≡ Some c → c.closing ≡ Some reason
       → c.told ≡ [] → c.used ≡ 0 → w.hub.phase ≡ phase.Telling
       → Happens w (after_output w (close place reason) (with_client w.hub place None))
